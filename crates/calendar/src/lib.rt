@@ -1,0 +1,4 @@
+pub mod calendar;
+pub mod client;
+pub mod entry;
+pub mod fault;

@@ -1,0 +1,12 @@
+use Prim.Native.Nat.{_-_}
+use lib.ListN.{length}
+use Rattle.std.specs.Slices.{Shuffled}
+use Rattle.calendar.specs.Agenda.{before}
+use Rattle.heap.proofs.Heaps.{Sinking}
+use Rattle.heap.proofs.sift.sift_down.Given as given
+
+abbrev pub Inv-loop-at : given.InvT-loop-at
+Inv-loop-at l = Shuffled (l .entry .heap) (l .heap) × Sinking before (l .heap) (l .at) (length (l .heap))
+
+abbrev pub μ-loop-at : given.MeasureT-loop-at
+μ-loop-at l = length (l .entry .heap) - l .at

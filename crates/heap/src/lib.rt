@@ -1,0 +1,4 @@
+pub mod heap;
+mod marks;
+mod pile;
+mod sift;

@@ -1,0 +1,6 @@
+use mathlib.Core.Path.{refl}
+use Rattle.pull_ranges.proofs.Ranges.{same-range}
+use Rattle.pull_ranges.proofs.pulls.perhaps.Needs as need
+
+pub returns : need.returns
+returns c = same-range _ _ refl refl

@@ -1,0 +1,13 @@
+pub mod Draining
+pub mod Settling
+pub mod Plannings
+pub mod Ticks
+pub mod Locality
+pub mod Callings
+pub mod Advances
+pub mod Openings
+pub mod Idle
+pub mod Handlings
+pub mod Comparing
+pub mod Timing
+pub mod Sizes

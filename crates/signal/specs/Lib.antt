@@ -1,0 +1,10 @@
+pub mod Circuit
+pub mod Ordered
+pub mod Signal
+pub mod Calls
+pub mod Refusals
+pub mod Inputs
+pub mod Waiting
+pub mod Laws
+pub mod Traces
+pub mod Handled

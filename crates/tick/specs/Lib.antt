@@ -1,0 +1,5 @@
+pub mod Due
+pub mod Settled
+pub mod Laid
+pub mod Reported
+pub mod Plans

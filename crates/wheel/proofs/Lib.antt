@@ -1,0 +1,4 @@
+pub mod Digits
+pub mod Rosters
+pub mod Rings
+pub mod Wheels

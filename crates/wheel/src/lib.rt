@@ -1,0 +1,4 @@
+mod ring;
+mod roster;
+pub mod wheel;
+mod word;
