@@ -146,7 +146,7 @@ pub fn compare(heap: Global, tally: &mut Tally, seed: u64) -> Result<(), AllocEr
     )
 }
 
-// The case about the last tick of a run, for the family and the calendar that the seed chooses.
+// The case about the last tick of a run, for the family and the calendar that its number chooses.
 pub fn compare_end(heap: Global, tally: &mut Tally, seed: u64) -> Result<(), AllocError> {
     let mut random = Random::new(seed);
     let board = board::restless(heap)?;

@@ -10,7 +10,7 @@ pub struct Tally {
     pub lines: u64,
     // how often each number came, from 1 on
     pub refusals: [u64; 26],
-    // the seeds of the cases that differ, each with its first step that does
+    // the cases that differ, by their seed, each with its first step that does
     pub differing: Vec<(u64, u32)>,
 }
 

@@ -1,5 +1,5 @@
 use denote.Memory.{lone}
-use Rattle.speed.proofs.Sizes.{align-le, run-fits}
+use Rattle.run.proofs.Sizes.{align-le, run-fits}
 use Rattle.speed.proofs.lap.run_on.Needs as need
 
 pub open-run-requires : need.open-run-requires
