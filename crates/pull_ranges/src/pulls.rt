@@ -6,6 +6,7 @@ use logic::family::Family;
 use logic::named::Named;
 use nine_values::nine::Nine;
 use nine_values::nine::NineFamily;
+use nine_values::nine::NinePartialEq;
 use nine_values::nine::NineValues;
 
 // The level that a value counts as in a logic operation: 0, 1 or X.
@@ -155,16 +156,16 @@ pub impl Family for PullRanges as PullFamily {
 
     fn tri(data: Pull, enable: Pull) -> Pull {
         match (read(data), read(enable)) {
-            (d, Nine::One) => form(d),
-            (_, Nine::Zero) => Pull {
+            (d, e) if e == Nine::One => form(d),
+            (_, e) if e == Nine::Zero => Pull {
                 up: none(),
                 down: none(),
             },
-            (Nine::One, _) => Pull {
+            (d, _) if d == Nine::One => Pull {
                 up: perhaps(),
                 down: none(),
             },
-            (Nine::Zero, _) => Pull {
+            (d, _) if d == Nine::Zero => Pull {
                 up: none(),
                 down: perhaps(),
             },

@@ -115,14 +115,14 @@ module _ {F D V : Type 0} (f : Family F V) (c : Calendar D) (C : Board) (s : Sta
         wrote-drop old out (joined change-bytes (first done)) end (g .wrote),
       )
     where
-      before-same : (n t : ℕ) → level-before (f .logic) (contents (x .net)) s n t ≡ level-before (f .logic) (contents (x .net)) (leaves (f .logic) C s (advance k (length old))) n t
+      before-same : (n t : ℕ) → level-before (f .logic) (contents (x .wiring .net)) s n t ≡ level-before (f .logic) (contents (x .wiring .net)) (leaves (f .logic) C s (advance k (length old))) n t
       before-same n zero = refl
       before-same n (suc t) = refl
 
-      waiting-same : (t : ℕ) → waiting-at (f .logic) (contents (x .net)) s t ≡ waiting-at (f .logic) (contents (x .net)) (leaves (f .logic) C s (advance k (length old))) t
+      waiting-same : (t : ℕ) → waiting-at (f .logic) (contents (x .wiring .net)) s t ≡ waiting-at (f .logic) (contents (x .wiring .net)) (leaves (f .logic) C s (advance k (length old))) t
       waiting-same zero = refl
       waiting-same (suc t) = refl
 
 module _ {F D V : Type 0} (f : Family F V) (c : Calendar D) (C : Board) (s : State V) (x : Run F D V) (h : Has f c C s x) where
-  pub room-is : tick-room (f .logic) C ≡ 8 * x .net .head .watches
-  room-is = ap (λ n. 8 * n) (sym (ap (λ (B : Board). length (B .watches)) (h .board)) ∙ watch-count (x .net))
+  pub room-is : tick-room (f .logic) C ≡ 8 * x .wiring .net .head .watches
+  room-is = ap (λ n. 8 * n) (sym (ap (λ (B : Board). length (B .watches)) (h .board)) ∙ watch-count (x .wiring .net))

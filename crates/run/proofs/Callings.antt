@@ -64,14 +64,14 @@ module _ {F D V : Type 0} (f : Family F V) (c : Calendar D) (C : Board) (s : Sta
   pub fit-on : x .fit ≡ true → not (s .fit) ≡ false
   fit-on e = ap not (sym (h .fits .fit-is) ∙ e)
 
-  pub ports-count : C .ports ≡ x .net .head .ports
+  pub ports-count : C .ports ≡ x .wiring .net .head .ports
   ports-count = sym (ap (λ (B : Board). B .ports) (h .board))
 
-  pub nets-count : C .nets ≡ x .net .head .nets
+  pub nets-count : C .nets ≡ x .wiring .net .head .nets
   nets-count = sym (ap (λ (B : Board). B .nets) (h .board))
 
-  pub gate-number : gate-count C ≡ x .net .head .gates
-  gate-number = sym (ap gate-count (h .board)) ∙ gates-count (x .net)
+  pub gate-number : gate-count C ≡ x .wiring .net .head .gates
+  gate-number = sym (ap gate-count (h .board)) ∙ gates-count (x .wiring .net)
 
 -- ---- what the checks 16 and 18 tell
 
@@ -81,7 +81,7 @@ never v e is = let z : _≡_ {A = ℕ} 0 1 = cc in omega arith
 same-err : {T E : Type 0} (e e′ : E) → _≡_ {A = Result T E} (Err e) (Err e′) → e ≡ e′
 same-err e e′ is = cc
 
-same-ok : {T E : Type 0} (v v′ : T) → _≡_ {A = Result T E} (Ok v) (Ok v′) → v ≡ v′
+pub same-ok : {T E : Type 0} (v v′ : T) → _≡_ {A = Result T E} (Ok v) (Ok v′) → v ≡ v′
 same-ok v v′ is = cc
 
 pub unready : (fit : Bool) (t : ℕ) (e : RunFault) → readied fit t ≡ Err e → (fit ≡ false) × (e ≡ UnfitCalendar t)
@@ -115,7 +115,7 @@ module _ {F D V : Type 0} (f : Family F V) (c : Calendar D) (x : Run F D V) (e :
   drive-refused p k is = record { called = call-refused (drive p k) is; unchanged = λ e′ _. refl }
 
   pub advance-refused : (k : ℕ) (out : List ℕ) → ((C : Board) (s : State V) → Has f c C s x → refusal (f .logic) C s (advance k (length out)) ≡ Some (number e)) → Advanced f c x k out x out (Err e)
-  advance-refused k out is = record { called = call-refused (advance k (length out)) is; stays = λ C s h. refl; unchanged = λ e′ _. (refl, refl) }
+  advance-refused k out is = record { called = call-refused (advance k (length out)) is; within = λ t b ok. absurd (never (t, b) e (sym ok)); stays = λ C s h. refl; unchanged = λ e′ _. (refl, refl) }
 
 pub before-is : {V : Type 0} (L : Logic V) (C : Board) (s : State V) (n t : ℕ) → (t ≡ 0 → ⊥) → level-before L C s n t ≡ level L C s n (t - 1)
 before-is L C s n zero ne = absurd (ne refl)
@@ -127,7 +127,7 @@ before-is L C s n (suc t) ne = ap (level L C s n) (less t)
 module _ {F D V : Type 0} (f : Family F V) (c : Calendar D) (C : Board) (s : State V) (x : Run F D V) (h : Has f c C s x) where
   pub read-level : (n : ℕ) → n < 1024 → (s .ticks ≡ 0 → ⊥) → getD (x .levels) n (f .logic .unset) ≡ level (f .logic) C s n (s .ticks - 1)
   read-level n lt ne =
-      h .fits .held .levels-are n lt ∙ before-is (f .logic) (contents (x .net)) s n (s .ticks) ne ∙ ap (λ (B : Board). level (f .logic) B s n (s .ticks - 1)) (h .board)
+      h .fits .held .levels-are n lt ∙ before-is (f .logic) (contents (x .wiring .net)) s n (s .ticks) ne ∙ ap (λ (B : Board). level (f .logic) B s n (s .ticks - 1)) (h .board)
 
 module _ {V : Type 0} {L : Logic V} (laws : Laws L) (net : Netlist) (s : State V) (k : ℕ) (v : V) (is : L .of-code k ≡ Some v)
     (n : ℕ) (a : Agenda) (fit calm : Bool) (ports drive₀ plan levels : List V) (ticks records : ℕ)

@@ -81,7 +81,7 @@ module _ {F C D V : Type 0} (f : Family F V) (c : Calendar C) (d : Calendar D) (
       sym (λ i. cond (e i && not (z i)) (lowest (shown B B′ s s′) 0 (min (B .nets) (B′ .nets))) None)
 
   pub compared : (r : Option ℕ) → x .ticks ≡ y .ticks → (x .ticks ≡ 0 → ⊥) →
-      r ≡ lowest (λ n. contradicts (f .logic) (getD (x .levels) n (f .logic .unset)) (getD (y .levels) n (f .logic .unset))) 0 (min (x .net .head .nets) (y .net .head .nets)) →
+      r ≡ lowest (λ n. contradicts (f .logic) (getD (x .levels) n (f .logic .unset)) (getD (y .levels) n (f .logic .unset))) 0 (min (x .wiring .net .head .nets) (y .wiring .net .head .nets)) →
       Compared f c d x y r
   compared r same some is B B′ s s′ h k =
       let L = f .logic in
@@ -90,14 +90,14 @@ module _ {F C D V : Type 0} (f : Family F V) (c : Calendar C) (d : Calendar D) (
       let on′ : s′ .ticks ≡ 0 → ⊥ = λ z. some (same ∙ k .fits .ticks-are ∙ z) in
       let z : eqb (s .ticks) 0 ≡ false = ne-eqb (s .ticks) 0 on in
       let held : ℕ → Bool = λ n. contradicts L (getD (x .levels) n (L .unset)) (getD (y .levels) n (L .unset)) in
-      let nets : min (x .net .head .nets) (y .net .head .nets) ≡ min (B .nets) (B′ .nets) = λ i. min (sym (nets-count f c B s x h) i) (sym (nets-count f d B′ s′ y k) i) in
+      let nets : min (x .wiring .net .head .nets) (y .wiring .net .head .nets) ≡ min (B .nets) (B′ .nets) = λ i. min (sym (nets-count f c B s x h) i) (sym (nets-count f d B′ s′ y k) i) in
       is ∙ ap (lowest held 0) nets
       ∙ lowest-same held (shown B B′ s s′) 0 (min (B .nets) (B′ .nets)) (λ n lt. λ i. contradicts L
       (read-level f c B s x h n (below n lt) on i) (read-level f d B′ s′ y k n (below n lt) on′ i))
       ∙ sym (λ i. cond (e i && not (z i)) (lowest (shown B B′ s s′) 0 (min (B .nets) (B′ .nets))) None)
     where
       below : (n : ℕ) → n < 0 + min (B .nets) (B′ .nets) → n < 1024
-      below n lt = omega (arith, x .net .nets, nets-count f c B s x h)
+      below n lt = omega (arith, x .wiring .net .nets, nets-count f c B s x h)
 
   pub learned : Laws (f .logic) → (a : Option ℕ) → Compared f c d x y a → Learning-contradicts-none f c d x y a
   learned laws a is r q u v h k board ticks learns =

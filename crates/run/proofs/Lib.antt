@@ -11,3 +11,4 @@ pub mod Handlings
 pub mod Comparing
 pub mod Timing
 pub mod Sizes
+pub mod Leans

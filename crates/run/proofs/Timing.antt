@@ -28,11 +28,11 @@ on-time f c laws C s x h on =
     let waits : (t : ℕ) → s .ticks ≡ t + 1 → a .waiting ≡ waiting-after L C s t = λ t e.
     kept .waiting-is ∙ (λ i. waiting-at L (h .board i) s ((e ∙ add-one t) i)) in
     record {
-      opening = λ e. (kept .today-is ∙ ap (λ t. t - 1) e, kept .waiting-is ∙ ap (waiting-at L (contents (x .net)) s) e);
+      opening = λ e. (kept .today-is ∙ ap (λ t. t - 1) e, kept .waiting-is ∙ ap (waiting-at L (contents (x .wiring .net)) s) e);
       today = λ t e. kept .today-is ∙ ap (λ u. u - 1) e ∙ less t;
       waits = waits;
       exactly = λ t e entry. subst (λ w. List-has w entry ↔ Due L C s t entry) (sym (waits t e))
-          (waiting-exactly laws C (subst Well-formed (h .board) (well-formed (x .net))) s t entry);
+          (waiting-exactly laws C (subst Well-formed (h .board) (well-formed (x .wiring .net))) s t entry);
     }
   where
     less : (t : ℕ) → t + 1 - 1 ≡ t

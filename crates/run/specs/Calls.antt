@@ -2,7 +2,7 @@
 use mathlib.Core.Path.{_≡_}
 use mathlib.Core.Bool.{Bool, true, false, cond, _&&_}
 use mathlib.Core.List.{List, [], _∷_}
-use Prim.Native.Nat.{ℕ, _+_, _-_}
+use Prim.Native.Nat.{ℕ, _+_, _-_, _≤_}
 use lib.ListN.{length, take, drop}
 use lib.Dec.{eqb, leb}
 use Rattle.std.specs.Joined.{joined}
@@ -72,8 +72,8 @@ fit-for C a = eqb (a .today) 0 && (empty (a .waiting) && (leb (gate-count C) (a 
 module _ {F D V : Type 0} (f : Family F V) (c : Calendar D) where
   -- the run x, opened on the board C, has the state s, has gone on to t ticks, and written n records
   pub record At (C : Board) (s : State V) (t n : ℕ) (x : Run F D V) : Type 0 where
-    pub board : contents (x .net) ≡ C
-    pub fits : Fits (f .logic) (contents (x .net)) s t n (c .meaning (x .calendar)) (x .fit) (x .calm) (x .ports) (x .drives) (x .planned) (x .levels) (x .ticks) (x .records)
+    pub board : contents (x .wiring .net) ≡ C
+    pub fits : Fits (f .logic) (contents (x .wiring .net)) s t n (c .meaning (x .calendar)) (x .fit) (x .calm) (x .ports) (x .drives) (x .planned) (x .levels) (x .ticks) (x .records)
 
   abbrev pub Has : Board → State V → Run F D V → Type 0
   Has C s x = At C s (s .ticks) (length (s .changes)) x
@@ -102,6 +102,8 @@ module _ {F D V : Type 0} (f : Family F V) (c : Calendar D) where
 
   pub record Advanced (x : Run F D V) (k : ℕ) (out : List ℕ) (y : Run F D V) (out′ : List ℕ) (r : Result (ℕ × ℕ) RunFault) : Type 0 where
     pub called : Called (advance k (length out)) x y (told-trace r out′)
+    -- the bytes that it says it wrote stand in the buffer
+    pub within : (ticks bytes : ℕ) → r ≡ Ok (ticks, bytes) → bytes ≤ length out′
     -- the bytes behind those that it wrote stay
     pub stays : (C : Board) (s : State V) → Has C s x → behind r out′ ≡ behind r out
     pub unchanged : (e : RunFault) → r ≡ Err e → (y ≡ x) × (out′ ≡ out)

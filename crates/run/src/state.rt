@@ -1,8 +1,8 @@
 // A run of a board: the fields of its state, and the faults of its calls.
 ghost use Prim.Native.Nat.{_≤_, _*_};
 use calendar::calendar::Calendar;
+use fanout::wiring::Wiring;
 use logic::family::Family;
-use netlist::place::Netlist;
 
 pub mod calls;
 pub mod compare;
@@ -11,7 +11,8 @@ pub mod fault;
 #[derive(Drop)]
 pub struct Run<F: Family, C: Calendar> {
     calendar: C,
-    net: Netlist,
+    // the netlist, its gates chained by the nets that they meet
+    wiring: Wiring,
     // whether the calendar was fit at opening
     fit: bool,
     // a tick is complete, and no port was driven since

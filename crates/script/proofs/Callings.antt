@@ -181,7 +181,7 @@ fronted-is trace trace′ bytes n long front rest =
 
 module _ {F D V : Type 0} (f : Family F V) (c : Calendar D) where
   pub kept-rules : (C : Board) (s : State V) (x : Run F D V) → Has f c C s x → Well-formed C
-  kept-rules C s x h = subst Well-formed (h .board) (well-formed (x .net))
+  kept-rules C s x h = subst Well-formed (h .board) (well-formed (x .wiring .net))
 
   -- two calls come to the same for every state that the run has come to
   abbrev pub Interchange : Run F D V → Call → Call → Type 0

@@ -1,5 +1,5 @@
 use denote.Memory.{lone}
-use Rattle.script_stream.proofs.Sizes.{align-le, run-fits}
+use Rattle.run.proofs.Sizes.{align-le, run-fits}
 use Rattle.pull_cases.proofs.serve.Needs as need
 
 pub open-run-requires : need.open-run-requires

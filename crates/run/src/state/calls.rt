@@ -1,6 +1,6 @@
 ghost use mathlib.Core.Path.{_≡_};
 ghost use Prim.Native.Nat.{_+_, _*_, _<_, _≤_};
-ghost use mathlib.Core.Bool.{_&&_, not};
+ghost use mathlib.Core.Bool.{true, _&&_, not};
 ghost use lib.ListN.{length, getD};
 ghost use Rattle.tick.specs.Due.{is-first};
 ghost use Rattle.netlist.specs.Looked.{contents};
@@ -8,6 +8,8 @@ ghost use Rattle.run.specs.Calls.{Ticked, Opened, Waked, Driven, Reads, Finish
 use super::Run;
 use super::RunFault;
 use calendar::calendar::Calendar;
+use fanout::wiring::Wiring;
+use fanout::work::work_changed;
 use logic::family::Family;
 use netlist::place::Netlist;
 use tick::due::is_due;
@@ -21,10 +23,10 @@ impl<F: Family, C: Calendar> Run<F, C> {
     // Completes one tick, writes its records from `at` on, and answers the place behind them.
     fn tick(&mut self, out: &mut [u8], at: usize) -> usize
         requires early { ⌜ now self .ticks < 16777216 ⌝ }
-        requires room { ⌜ at + 8 * now self .net .head .watches ≤ length (now out) ⌝ }
+        requires room { ⌜ at + 8 * now self .wiring .net .head .watches ≤ length (now out) ⌝ }
         ensures ticked { λ r. ⌜ Ticked F·Family C·Calendar (now (self .entry)) (now (out .entry)) at (now (self .exit)) (now (out .exit)) r ⌝ }
         ensures more { λ r. ⌜ now (self .exit) .ticks ≡ now (self .entry) .ticks + 1 ⌝ }
-        ensures net { λ r. ⌜ now (self .exit) .net ≡ now (self .entry) .net ⌝ }
+        ensures net { λ r. ⌜ now (self .exit) .wiring .net ≡ now (self .entry) .wiring .net ⌝ }
         ensures ends { λ r. ⌜ r ≤ length (now (out .exit)) ⌝ }
         ensures long { λ r. ⌜ length (now (out .exit)) ≡ length (now (out .entry)) ⌝ }
     {
@@ -32,6 +34,9 @@ impl<F: Family, C: Calendar> Run<F, C> {
             let _ = self.calendar.turn(self.ticks);
             self.ticks += 1;
             return at;
+        }
+        if self.calm {
+            return self.work_calm(out, at);
         }
         self.work(out, at)
     }
@@ -46,22 +51,22 @@ impl<F: Family, C: Calendar> Run<F, C> {
     // Works one tick in full, writes its records from `at` on, and answers the place behind them.
     fn work(&mut self, out: &mut [u8], at: usize) -> usize
         requires early { ⌜ now self .ticks < 16777216 ⌝ }
-        requires room { ⌜ at + 8 * now self .net .head .watches ≤ length (now out) ⌝ }
+        requires room { ⌜ at + 8 * now self .wiring .net .head .watches ≤ length (now out) ⌝ }
         ensures ticked { λ r. ⌜ Ticked F·Family C·Calendar (now (self .entry)) (now (out .entry)) at (now (self .exit)) (now (out .exit)) r ⌝ }
         ensures more { λ r. ⌜ now (self .exit) .ticks ≡ now (self .entry) .ticks + 1 ⌝ }
-        ensures net { λ r. ⌜ now (self .exit) .net ≡ now (self .entry) .net ⌝ }
+        ensures net { λ r. ⌜ now (self .exit) .wiring .net ≡ now (self .entry) .wiring .net ⌝ }
         ensures ends { λ r. ⌜ r ≤ length (now (out .exit)) ⌝ }
         ensures long { λ r. ⌜ length (now (out .exit)) ≡ length (now (out .entry)) ⌝ }
     {
         let t = self.ticks;
         let _ = self.calendar.turn(t);
         take_due::<F, C>(&mut self.calendar, t, &mut self.drives);
-        let levels = settle::<F>(&self.net, &self.ports, &self.drives);
-        let end = report::<F>(&self.net, &self.levels, &levels, t, out, at);
+        let levels = settle::<F>(&self.wiring.net, &self.ports, &self.drives);
+        let end = report::<F>(&self.wiring.net, &self.levels, &levels, t, out, at);
         plan::<F, C>(
             &mut self.calendar,
             &mut self.planned,
-            &self.net,
+            &self.wiring.net,
             &levels,
             Moment { tick: t },
         );
@@ -73,13 +78,46 @@ impl<F: Family, C: Calendar> Run<F, C> {
     }
 
     // Opens a run; no tick is complete, and every level is unset. It never refuses: on an unfit calendar every later call is refused.
+    // Works one tick of a calm run: only the nets and gates that the entries of the tick reach.
+    fn work_calm(&mut self, out: &mut [u8], at: usize) -> usize
+        requires early { ⌜ now self .ticks < 16777216 ⌝ }
+        requires calm { ⌜ now self .calm ≡ true ⌝ }
+        requires room { ⌜ at + 8 * now self .wiring .net .head .watches ≤ length (now out) ⌝ }
+        ensures ticked { λ r. ⌜ Ticked F·Family C·Calendar (now (self .entry)) (now (out .entry)) at (now (self .exit)) (now (out .exit)) r ⌝ }
+        ensures more { λ r. ⌜ now (self .exit) .ticks ≡ now (self .entry) .ticks + 1 ⌝ }
+        ensures net { λ r. ⌜ now (self .exit) .wiring .net ≡ now (self .entry) .wiring .net ⌝ }
+        ensures ends { λ r. ⌜ r ≤ length (now (out .exit)) ⌝ }
+        ensures long { λ r. ⌜ length (now (out .exit)) ≡ length (now (out .entry)) ⌝ }
+    {
+        let t = self.ticks;
+        let _ = self.calendar.turn(t);
+        let mut levels = self.levels;
+        let planned = &mut self.planned;
+        work_changed::<F, C>(
+            &mut self.calendar,
+            &self.wiring,
+            &self.ports,
+            &mut self.drives,
+            &mut levels,
+            planned,
+            Moment { tick: t },
+        );
+        let end = report::<F>(&self.wiring.net, &self.levels, &levels, t, out, at);
+        self.levels = levels;
+        self.calm = true;
+        self.records += ((end - at) / 8) as u64;
+        self.ticks = t + 1;
+        end
+    }
+
     pub fn open(net: Netlist, calendar: C) -> Run<F, C>
         ensures { λ r. ⌜ Opened F·Family C·Calendar net calendar r ⌝ }
     {
         let fit = suits(&net, &calendar);
+        let wiring = Wiring::new(net);
         Run {
             calendar,
-            net,
+            wiring,
             fit,
             calm: false,
             ports: [F::unset(); 1024],
@@ -96,7 +134,7 @@ impl<F: Family, C: Calendar> Run<F, C> {
         ensures { λ r. ⌜ Waked F·Family C·Calendar (now (self .entry)) gate code (now (self .exit)) r ⌝ }
     {
         self.ready()?;
-        if gate >= self.net.head.gates {
+        if gate >= self.wiring.net.head.gates {
             return Err(RunFault::NoSuchInput(self.ticks));
         }
         let v = self.value(code)?;
@@ -113,7 +151,7 @@ impl<F: Family, C: Calendar> Run<F, C> {
         ensures { λ r. ⌜ Driven F·Family C·Calendar (now (self .entry)) port code (now (self .exit)) r ⌝ }
     {
         self.ready()?;
-        if port >= self.net.head.ports {
+        if port >= self.wiring.net.head.ports {
             return Err(RunFault::NoSuchInput(self.ticks));
         }
         let v = self.value(code)?;
@@ -127,7 +165,7 @@ impl<F: Family, C: Calendar> Run<F, C> {
         ensures { λ r. ⌜ Reads F·Family C·Calendar (now (self .entry)) net r ⌝ }
     {
         self.ready()?;
-        if net >= self.net.head.nets {
+        if net >= self.wiring.net.head.nets {
             return Err(RunFault::NoSuchNet(self.ticks));
         }
         if self.ticks == 0 {
@@ -148,7 +186,7 @@ impl<F: Family, C: Calendar> Run<F, C> {
         if k > 16_777_216 - self.ticks {
             return Err(RunFault::TooManyTicks(self.ticks));
         }
-        let room = 8 * self.net.head.watches as usize;
+        let room = 8 * self.wiring.net.head.watches as usize;
         if out.len() < room {
             return Err(RunFault::ShortBuffer(self.ticks));
         }

@@ -25,7 +25,7 @@ pub fn contradiction<F: Family, C: Calendar, D: Calendar>(
     if first.ticks == 0 {
         return None;
     }
-    let nets = lesser(first.net.head.nets, second.net.head.nets);
+    let nets = lesser(first.wiring.net.head.nets, second.wiring.net.head.nets);
     lowest::<F>(&first.levels, &second.levels, nets)
 }
 

@@ -1,5 +1,5 @@
 use denote.Memory.{lone}
-use Rattle.script_stream.proofs.Sizes.{align-le, run-fits}
+use Rattle.run.proofs.Sizes.{align-le, run-fits}
 use Rattle.script_cases.proofs.open_small.Needs as need
 
 pub open-run-requires : need.open-run-requires

@@ -1,5 +1,5 @@
 use denote.Memory.{lone}
-use Rattle.script_stream.proofs.Sizes.{align-le, run-fits}
+use Rattle.run.proofs.Sizes.{align-le, run-fits}
 use Rattle.stream_cases.proofs.compare.Needs as need
 
 pub open-first-requires : need.open-first-requires

@@ -1,5 +1,5 @@
 use denote.Memory.{lone}
-use Rattle.compare.proofs.Sizes.{align-le, run-fits}
+use Rattle.run.proofs.Sizes.{align-le, run-fits}
 use Rattle.compare.proofs.play.play.Needs as need
 
 pub open-run-requires : need.open-run-requires

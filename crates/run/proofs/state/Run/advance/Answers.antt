@@ -13,7 +13,7 @@ use Rattle.signal.specs.Calls.{advance, first-of, tick-room, completes, most-ti
 use Rattle.run.specs.declared.state.RunFault.the-variants.{UnfitCalendar, ZeroTicks, TooManyTicks, ShortBuffer}
 use Rattle.signal.proofs.Advancing.{completes-stop}
 use Rattle.run.specs.Calls.{Advanced}
-use Rattle.run.proofs.Callings.{advance-refused, unfit, unready, is-ready, never, accepts, fit-on}
+use Rattle.run.proofs.Callings.{advance-refused, unfit, unready, is-ready, never, same-ok, accepts, fit-on}
 use Rattle.run.proofs.Advances.{going-none, going-more, gone, room-is}
 use Rattle.run.proofs.state.Run.advance.Needs as need
 
@@ -102,6 +102,7 @@ returns-else-out-end g c =
           let z = gone (g .F·Family) (g .C·Calendar) C s k (c .args .out .now) (c .loop-done .done) (c .loop-done .end) (c .loop-done .out) (c .loop-done .self) (completes-stop L C s (k - c .loop-done .done) (s .ticks + c .loop-done .done) (n - c .loop-done .end) (omega (arith, room-is (g .F·Family) (g .C·Calendar) C s x h, c .loop-done .kept .out, c .if-out-end .left))) (c .loop-done .inv .4 C s (sym (h .fits .fit-is) ∙ on) h) in
           let r = accepts (g .F·Family) (g .C·Calendar) C s x h (advance k n) (c .loop-done .self) (λ i. first-of ((e₁ i, 16) ∷ (e₂ i, 19) ∷ (e₃ i, 20) ∷ (e₄ i, 21) ∷ [])) (z .0) in
           (r .0, z .1 ∙ r .1);
+      within = λ t b ok. subst (λ n. n ≤ length (c .loop-done .out)) (ap (λ q. q .1) (same-ok (c .loop-done .done, c .loop-done .end) (t, b) ok)) (c .loop-done .inv .1);
       stays = λ C s h. gone (g .F·Family) (g .C·Calendar) C s k (c .args .out .now) (c .loop-done .done) (c .loop-done .end) (c .loop-done .out) (c .loop-done .self) (completes-stop L C s (k - c .loop-done .done) (s .ticks + c .loop-done .done) (n - c .loop-done .end) (omega (arith, room-is (g .F·Family) (g .C·Calendar) C s x h, c .loop-done .kept .out, c .if-out-end .left))) (c .loop-done .inv .4 C s (sym (h .fits .fit-is) ∙ on) h) .2;
       unchanged = λ e refused. absurd (never (c .loop-done .done, c .loop-done .end) e refused);
     }
@@ -125,6 +126,7 @@ returns-after-loop-done g c =
           let z = gone (g .F·Family) (g .C·Calendar) C s k (c .args .out .now) (c .loop-done .done) (c .loop-done .end) (c .loop-done .out) (c .loop-done .self) (ap (λ j. completes L C s j (s .ticks + c .loop-done .done) (n - c .loop-done .end)) (all k (c .loop-done .done) (c .loop-done-test .left))) (c .loop-done .inv .4 C s (sym (h .fits .fit-is) ∙ on) h) in
           let r = accepts (g .F·Family) (g .C·Calendar) C s x h (advance k n) (c .loop-done .self) (λ i. first-of ((e₁ i, 16) ∷ (e₂ i, 19) ∷ (e₃ i, 20) ∷ (e₄ i, 21) ∷ [])) (z .0) in
           (r .0, z .1 ∙ r .1);
+      within = λ t b ok. subst (λ n. n ≤ length (c .loop-done .out)) (ap (λ q. q .1) (same-ok (c .loop-done .done, c .loop-done .end) (t, b) ok)) (c .loop-done .inv .1);
       stays = λ C s h. gone (g .F·Family) (g .C·Calendar) C s k (c .args .out .now) (c .loop-done .done) (c .loop-done .end) (c .loop-done .out) (c .loop-done .self) (ap (λ j. completes L C s j (s .ticks + c .loop-done .done) (n - c .loop-done .end)) (all k (c .loop-done .done) (c .loop-done-test .left))) (c .loop-done .inv .4 C s (sym (h .fits .fit-is) ∙ on) h) .2;
       unchanged = λ e refused. absurd (never (c .loop-done .done, c .loop-done .end) e refused);
     }

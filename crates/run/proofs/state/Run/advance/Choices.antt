@@ -10,7 +10,7 @@ use Rattle.run.proofs.state.Run.advance.Given as given
 
 abbrev pub Inv-loop-done : given.InvT-loop-done
 Inv-loop-done g l =
-    (l .done ≤ l .k) × (l .end ≤ length (l .out)) × (l .self .ticks ≡ l .entry .self .ticks + l .done) × (l .self .net ≡ l .entry .self .net)
+    (l .done ≤ l .k) × (l .end ≤ length (l .out)) × (l .self .ticks ≡ l .entry .self .ticks + l .done) × (l .self .wiring .net ≡ l .entry .self .wiring .net)
     × ((C : Board) (s : State (g .F·Value .Denot)) → s .fit ≡ true → Has (g .F·Family) (g .C·Calendar) C s (l .entry .self) → Going (g .F·Family) (g .C·Calendar) C s (l .k) (l .entry .out) (l .done) (l .end) (l .out) (l .self))
 
 abbrev pub μ-loop-done : given.MeasureT-loop-done

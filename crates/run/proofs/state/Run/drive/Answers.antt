@@ -63,6 +63,6 @@ returns g c =
           let e₂ : leb (C .ports) p ≡ false = lt-leb (C .ports) p (omega (arith, ports-count (g .F·Family) (g .C·Calendar) C s x h, c .if-port-self .left)) in
           let e₃ : not (isSome (L .of-code (c .args .code))) ≡ false = ap (λ o. not (isSome o)) is in
           accepts (g .F·Family) (g .C·Calendar) C s x h (drive p (c .args .code)) _ (λ i. first-of ((e₁ i, 16) ∷ (e₂ i, 17) ∷ (e₃ i, 18) ∷ []))
-          (record { board = h .board; fits = drive-fits (g .F·Family·met .laws) (x .net) s (c .args .code) (c .in-Continue-v .v) is (length (s .changes)) (g .C·Calendar .meaning (x .calendar)) (x .fit) (x .calm) (x .ports) (x .drives) (x .planned) (x .levels) (x .ticks) (x .records) (h .fits) C p (omega (arith, x .net .nets, x .net .ports, c .if-port-self .left)) });
+          (record { board = h .board; fits = drive-fits (g .F·Family·met .laws) (x .wiring .net) s (c .args .code) (c .in-Continue-v .v) is (length (s .changes)) (g .C·Calendar .meaning (x .calendar)) (x .fit) (x .calm) (x .ports) (x .drives) (x .planned) (x .levels) (x .ticks) (x .records) (h .fits) C p (omega (arith, x .wiring .net .nets, x .wiring .net .ports, c .if-port-self .left)) });
       unchanged = λ e refused. absurd (never tt e refused);
     }

@@ -52,5 +52,5 @@ returns g c C s h =
     let e₂ : leb (C .nets) n ≡ false = lt-leb (C .nets) n (omega (arith, nets-count (g .F·Family) (g .C·Calendar) C s x h, c .if-net-self .left)) in
     let e₃ : eqb (s .ticks) 0 ≡ false = ne-eqb (s .ticks) 0 (λ z. c .if-self-eq0 .left (h .fits .ticks-are ∙ z)) in
     let r = accepts (g .F·Family) (g .C·Calendar) C s x h (read n) x (λ i. first-of ((e₁ i, 16) ∷ (e₂ i, 22) ∷ (e₃ i, 23) ∷ [])) h in
-    let v = read-level (g .F·Family) (g .C·Calendar) C s x h n (omega (arith, x .net .nets, c .if-net-self .left)) (λ z. c .if-self-eq0 .left (h .fits .ticks-are ∙ z)) in
+    let v = read-level (g .F·Family) (g .C·Calendar) C s x h n (omega (arith, x .wiring .net .nets, c .if-net-self .left)) (λ z. c .if-self-eq0 .left (h .fits .ticks-are ∙ z)) in
     (r .0, ap (λ p. shows (p .0) (p .1)) (c .show .ensures) ∙ (λ i. shows (L .code (v i)) (L .definite (v i))) ∙ r .1)

@@ -79,6 +79,6 @@ returns g c =
           let e₃ : not (isSome (L .of-code (c .args .code))) ≡ false = ap (λ o. not (isSome o)) is in
           let e₄ : ltb 0 (s .ticks) ≡ false = le-ltb 0 (s .ticks) (omega (arith, h .fits .ticks-are, c .if-self-ne0 .left)) in
           accepts (g .F·Family) (g .C·Calendar) C s x h (wake k (c .args .code)) _ (λ i. first-of ((e₁ i, 16) ∷ (e₂ i, 17) ∷ (e₃ i, 18) ∷ (e₄ i, 23) ∷ []))
-          (record { board = h .board; fits = wake-fits (g .F·Family·met .laws) (x .net) s (c .args .code) (c .in-Continue-v .v) is (length (s .changes)) (g .C·Calendar .meaning (x .calendar)) (x .fit) (x .calm) (x .ports) (x .drives) (x .planned) (x .levels) (x .ticks) (x .records) (h .fits) C k (omega (arith, x .net .table, c .if-gate-self .left)) (sym (h .fits .ticks-are) ∙ c .if-self-ne0 .left) });
+          (record { board = h .board; fits = wake-fits (g .F·Family·met .laws) (x .wiring .net) s (c .args .code) (c .in-Continue-v .v) is (length (s .changes)) (g .C·Calendar .meaning (x .calendar)) (x .fit) (x .calm) (x .ports) (x .drives) (x .planned) (x .levels) (x .ticks) (x .records) (h .fits) C k (omega (arith, x .wiring .net .table, c .if-gate-self .left)) (sym (h .fits .ticks-are) ∙ c .if-self-ne0 .left) });
       unchanged = λ e refused. absurd (never tt e refused);
     }

@@ -1,0 +1,7 @@
+// Where a gate meets its nets.
+#[derive(Clone, Copy)]
+pub enum Pin {
+    Output,
+    First,
+    Second,
+}
