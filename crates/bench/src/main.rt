@@ -1,6 +1,9 @@
 // The bench: works the script on standard input on the board in board.nlb, with nine values and a heap.
 // Given the name of a second script it works that one too, on a second run of the board over a wheel,
 // and says whether the second run contradicts a definite level of the first.
+
+#![tactic(auto)]
+
 ghost use Rattle.std.specs.Prelude.{◌≤◌};
 ghost use denote.Memory.{mem};
 

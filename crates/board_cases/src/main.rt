@@ -1,4 +1,7 @@
 // The bench's answer for files that it accepts and refuses, among them one that is missing and one that is too long.
+
+#![tactic(auto)]
+
 use board_file::file::board_bytes;
 use board_file::lines::{inventory_line, refusal_line};
 use netlist::look_over::look_over;

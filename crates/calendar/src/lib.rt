@@ -1,3 +1,5 @@
+#![tactic(auto)]
+
 pub mod calendar;
 pub mod client;
 pub mod entry;

@@ -1,3 +1,5 @@
+#![tactic(auto)]
+
 mod bounds;
 mod call;
 mod drive;

@@ -1,3 +1,5 @@
+#![tactic(auto)]
+
 use calendar::calendar::Calendar;
 use calendar::entry::Entry;
 use heap::heap::Heap;

@@ -1,6 +1,9 @@
 // Drives the bench and the independent simulator through the same cases, both families and both
 // calendars, and compares every answer and every byte. Says how many cases it saw and how often
 // each refusal came, so that a hole shows. A number as argument is the number of cases.
+
+#![tactic(auto)]
+
 mod bench;
 mod case;
 mod files;

@@ -1,4 +1,7 @@
 // The worked examples of the bench, each a consequence of the definitions.
+
+#![tactic(auto)]
+
 ghost use Rattle.std.specs.Prelude.{◌≡◌, true};
 ghost use Rattle.examples.specs.Examples.{Examples};
 ghost use Rattle.examples.specs.Inviting.{InvitingAndWrong};

@@ -1,3 +1,5 @@
+#![tactic(auto)]
+
 mod due;
 mod level;
 pub mod link;

@@ -1,3 +1,5 @@
+#![tactic(auto)]
+
 pub mod heap;
 mod marks;
 mod pile;

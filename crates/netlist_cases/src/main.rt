@@ -1,5 +1,8 @@
 // Looks over each damaged file of the table, and counts for each number the cases that came out as the rules say;
 // number 0 counts the files that are accepted.
+
+#![tactic(auto)]
+
 mod build;
 mod table;
 

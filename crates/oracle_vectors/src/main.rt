@@ -1,4 +1,7 @@
 // Holds the independent simulator to the outside vectors.
+
+#![tactic(auto)]
+
 use oracle::family::Family;
 use oracle::script;
 use std::alloc::{AllocError, Global};

@@ -1,4 +1,7 @@
 // Every name of four digits and other lines, with pull ranges over a wheel: the script on standard input on a latch.
+
+#![tactic(auto)]
+
 ghost use Rattle.std.specs.Prelude.{◌≤◌};
 ghost use denote.Memory.{mem};
 

@@ -1,4 +1,7 @@
 // Runs over both calendars and both families: one board, every refusal, short buffers, the last tick, and two runs side by side.
+
+#![tactic(auto)]
+
 ghost use Rattle.std.specs.Prelude.{◌≤◌};
 ghost use denote.Memory.{mem};
 

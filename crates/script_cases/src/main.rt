@@ -1,5 +1,8 @@
 // Good and bad lines, and every refusal that a script can meet, with nine values over a heap: the script on standard input
 // on a latch; then a gate that feeds itself, whose records fill the trace buffer; an unfit calendar; and buffers that are too small.
+
+#![tactic(auto)]
+
 ghost use Rattle.std.specs.Prelude.{◌≤◌};
 ghost use denote.Memory.{mem};
 

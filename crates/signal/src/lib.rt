@@ -1,4 +1,7 @@
 // The signal definition and the laws of runs. What is believed stands in specs; these few functions own the theorems.
+
+#![tactic(auto)]
+
 ghost use Rattle.std.specs.Prelude.{◌≡◌, ℕ, ◌==◌};
 ghost use Rattle.netlist.specs.Board.{Board};
 ghost use Rattle.signal.specs.Calls.{State, most_ticks};

@@ -1,6 +1,9 @@
 // Runs made boards over both calendars and both families. With no argument it runs each for a
 // few ticks and prints what changed; `speed all`, or `speed card wheel nine`, measures; and
 // `speed board card` writes the board's netlist file to standard output.
+
+#![tactic(auto)]
+
 mod board;
 mod choice;
 mod drawing;

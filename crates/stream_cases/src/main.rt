@@ -1,5 +1,8 @@
 // Streams: an empty script, then standard input, in which lines are longer than every buffer and the last has no line feed;
 // then two runs of a latch, of which the second starts at known levels: at first it only knows more, then it is driven another way.
+
+#![tactic(auto)]
+
 ghost use Rattle.std.specs.Prelude.{◌≤◌};
 ghost use denote.Memory.{mem};
 

@@ -1,5 +1,8 @@
 // Boards with scripts and the answers that they must have, worked out by hand from the circuit's
 // gates or taken from the tables of IEEE 1164; none comes from a simulator.
+
+#![tactic(auto)]
+
 pub mod circuits;
 pub mod laid;
 pub mod tables;

@@ -1,4 +1,7 @@
 // Compares the nine values, as they run, with the tables that IEEE 1164 publishes.
+
+#![tactic(auto)]
+
 mod compare;
 mod published;
 

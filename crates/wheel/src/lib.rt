@@ -1,3 +1,5 @@
+#![tactic(auto)]
+
 mod ring;
 mod roster;
 pub mod wheel;
