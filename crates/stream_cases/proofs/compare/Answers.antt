@@ -8,11 +8,11 @@ open-first-requires g c = run_fits _ _ _ _ _ (align_le (lone g.row.C.mir)) (alig
 pub open-second-requires : goal.open-second-requires
 open-second-requires g c = run_fits _ _ _ _ _ (align_le (lone g.row.D.mir)) (align_le (lone g.row.D.mir)) c.requires.other (align_le (lone g.row.F-Value.mir)) c.requires.value
 
-pub work-script-requires : goal.work-script-requires
-work-script-requires g c = run_fits _ _ _ _ _ (align_le (lone g.row.C.mir)) (align_le (lone g.row.C.mir)) c.requires.calendar (align_le (lone g.row.F-Value.mir)) c.requires.value
+pub work_script-requires : goal.work_script-requires
+work_script-requires g c = run_fits _ _ _ _ _ (align_le (lone g.row.C.mir)) (align_le (lone g.row.C.mir)) c.requires.calendar (align_le (lone g.row.F-Value.mir)) c.requires.value
 
-pub work-script-requires-2 : goal.work-script-requires-2
-work-script-requires-2 g c = run_fits _ _ _ _ _ (align_le (lone g.row.D.mir)) (align_le (lone g.row.D.mir)) c.requires.other (align_le (lone g.row.F-Value.mir)) c.requires.value
+pub work_script-requires-2 : goal.work_script-requires-2
+work_script-requires-2 g c = run_fits _ _ _ _ _ (align_le (lone g.row.D.mir)) (align_le (lone g.row.D.mir)) c.requires.other (align_le (lone g.row.F-Value.mir)) c.requires.value
 
 pub contradiction-requires : goal.contradiction-requires
 contradiction-requires g c = (run_fits _ _ _ _ _ (align_le (lone g.row.C.mir)) (align_le (lone g.row.C.mir)) c.requires.calendar (align_le (lone g.row.F-Value.mir)) c.requires.value, run_fits _ _ _ _ _ (align_le (lone g.row.D.mir)) (align_le (lone g.row.D.mir)) c.requires.other (align_le (lone g.row.F-Value.mir)) c.requires.value)

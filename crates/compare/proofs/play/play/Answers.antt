@@ -5,8 +5,8 @@ use Rattle.compare.proofs.play.play.Goals as goal
 pub open-run-requires : goal.open-run-requires
 open-run-requires g c = run_fits _ _ _ _ _ (align_le (lone g.row.C.mir)) (align_le (lone g.row.C.mir)) c.requires.calendar (align_le (lone g.row.F-Value.mir)) c.requires.value
 
-pub all-steps-requires : goal.all-steps-requires
-all-steps-requires g c = run_fits _ _ _ _ _ (align_le (lone g.row.C.mir)) (align_le (lone g.row.C.mir)) c.requires.calendar (align_le (lone g.row.F-Value.mir)) c.requires.value
+pub all_steps-requires : goal.all_steps-requires
+all_steps-requires g c = run_fits _ _ _ _ _ (align_le (lone g.row.C.mir)) (align_le (lone g.row.C.mir)) c.requires.calendar (align_le (lone g.row.F-Value.mir)) c.requires.value
 
 pub finish-ticks-requires : goal.finish-ticks-requires
 finish-ticks-requires g c = run_fits _ _ _ _ _ (align_le (lone g.row.C.mir)) (align_le (lone g.row.C.mir)) c.requires.calendar (align_le (lone g.row.F-Value.mir)) c.requires.value

@@ -19,12 +19,12 @@ loop-g-preserved g c =
     let e = gates-count net in
     let a = g.C.Calendar.meaning c.args.calendar.now in
     let h = c.in-Some.g in
-    let p = c.plan-gate.ensures in
+    let p = c.plan_gate.ensures in
     ⊎_elim
     (λ lt. done_more L C c.args.levels.now c.args.planned.now c.args.moment.tick a c.args.gates.now.words l.from l.gates.words l.planned (g.C.Calendar.meaning l.calendar) (omega (arith, e, net.table)) l.invariant
-    h c.in-Some.ensures c.set.new.self.words c.set.ensures (omega (arith, e, lt)) (p.long lt) c.plan-gate.new.planned (g.C.Calendar.meaning c.plan-gate.new.calendar) (p.planned lt) (p.calendar lt))
+    h c.in-Some.ensures c.set.new.self.words c.set.ensures (omega (arith, e, lt)) (p.long lt) c.plan_gate.new.planned (g.C.Calendar.meaning c.plan_gate.new.calendar) (p.planned lt) (p.calendar lt))
     (λ ge. done_past L C c.args.levels.now c.args.planned.now c.args.moment.tick a c.args.gates.now.words l.from l.gates.words l.planned (g.C.Calendar.meaning l.calendar) (omega (arith, e, net.table)) l.invariant
-    h c.in-Some.ensures c.set.new.self.words c.set.ensures (omega (arith, e, ge)) c.plan-gate.new.planned (g.C.Calendar.meaning c.plan-gate.new.calendar) (p.past.0 ge) (p.past.1 ge))
+    h c.in-Some.ensures c.set.new.self.words c.set.ensures (omega (arith, e, ge)) c.plan_gate.new.planned (g.C.Calendar.meaning c.plan_gate.new.calendar) (p.past.0 ge) (p.past.1 ge))
     (cases_lt h net.head.gates)
 
 pub loop-g-smaller : goal.loop-g-smaller
@@ -42,7 +42,7 @@ returns g c =
     let C = contents net in
     let e = gates-count net in
     let a = g.C.Calendar.meaning c.args.calendar.now in
-    let all = done_all L C c.args.levels.now c.args.planned.now c.args.moment.tick a c.args.gates.now.words l.from l.gates.words l.planned (g.C.Calendar.meaning l.calendar) (omega (arith, e, net.table)) l.invariant c.in-default.ensures in
+    let all = done_all L C c.args.levels.now c.args.planned.now c.args.moment.tick a c.args.gates.now.words l.from l.gates.words l.planned (g.C.Calendar.meaning l.calendar) (omega (arith, e, net.table)) l.invariant c.in_default.ensures in
     record {
       long = l.invariant.long;
       planned = λ idle h lt. (all idle).1 h (omega (arith, e));

@@ -16,7 +16,7 @@ loop-g-init g c =
     let ports = c.args.ports.now in
     let n = c.args.n in
     let e = gates-count net in
-    let p = get_or_default ports n c.index-ports-n.result L.unset (omega (arith, c.type-inv.ports, c.requires)) in
+    let p = get_or_default ports n c.index-ports-n.result L.unset (omega (arith, c.type_inv.ports, c.requires)) in
     sofar_none L C ports c.args.drives.now n _ _ _ (omega (arith, e, net.table)) (c.head-g.ensures ∙ ap (seek (out_of C) n 0) (sym e)) refl
     (c.start-v.ensures ∙ ap (λ z. cond (ltb n net.head.ports) z L.unset) p)
 
@@ -29,7 +29,7 @@ loop-g-preserved g c =
     let e = gates-count net in
     let h = c.loop-g.g in
     let lt = c.loop-g-test.true in
-    let d = get_or_default drives h c.index-drives-g.result L.unset (omega (arith, c.type-inv.drives, lt)) in
+    let d = get_or_default drives h c.index-drives-g.result L.unset (omega (arith, c.type_inv.drives, lt)) in
     sofar_more L C c.args.ports.now drives c.args.n h _ _ _ (omega (arith, e, net.table)) lt
     (c.next-g.ensures ∙ ap (λ z. seek (out_of C) (out_of C h) (h + 1) (z - (h + 1))) (sym e)) c.loop-g.invariant _ _ d c.together-v.ensures
 

@@ -13,11 +13,11 @@ returns-then-fresh-old g c =
     let L = g.F.Family.logic in
     let levels = c.args.levels.now in
     let n = c.args.n in
-    let v = c.resolve-net-v.result in
+    let v = c.resolve_net-v.result in
     let same : v ≡ get_or levels n L.unset = g.met.F.Family.laws.code_equal v c.level-was.result (sym c.code-fresh.ensures ∙ c.if-fresh-old.true ∙ c.code-old.ensures) ∙ c.level-was.ensures.is in
     record {
       long = c.level-was.ensures.long;
-      levels = sym (set-get_or levels n L.unset) ∙ ap (set levels n) (sym same ∙ c.resolve-net-v.ensures);
+      levels = sym (set-get_or levels n L.unset) ∙ ap (set levels n) (sym same ∙ c.resolve_net-v.ensures);
       kept = λ h lt m. m;
       readers = λ h lt m. refl;
     }
@@ -29,18 +29,18 @@ returns g c =
     let C = contents net in
     let n = c.args.n in
     let levels = c.args.levels.now in
-    let v = c.resolve-net-v.result in
-    let once = c.mark-readers.ensures in
-    let twice = c.mark-readers-2.ensures in
-    let stands : (h : ℕ) → h < net.head.gates → member c.mark-readers.new.gates.words h ≡ true → member c.mark-readers-2.new.gates.words h ≡ true = λ h lt m. twice.kept h (omega (arith, net.table)) m in
+    let v = c.resolve_net-v.result in
+    let once = c.mark_readers.ensures in
+    let twice = c.mark_readers-2.ensures in
+    let stands : (h : ℕ) → h < net.head.gates → member c.mark_readers.new.gates.words h ≡ true → member c.mark_readers-2.new.gates.words h ≡ true = λ h lt m. twice.kept h (omega (arith, net.table)) m in
     record {
       long = c.level-was.ensures.long;
-      levels = ap (set levels n) c.resolve-net-v.ensures;
+      levels = ap (set levels n) c.resolve_net-v.ensures;
       kept = λ h lt m. ⊎_elim
-          (λ on. absurd (both_ways (member c.mark-readers-2.new.gates.words h) m (stands h lt (once.kept h (omega (arith, net.table)) on))))
+          (λ on. absurd (both_ways (member c.mark_readers-2.new.gates.words h) m (stands h lt (once.kept h (omega (arith, net.table)) on))))
           (λ off. off)
           (cases_Bool (member c.args.gates.now.words h));
       readers = λ h lt m. reads_other L C levels n v h
-          (λ e. both_ways (member c.mark-readers-2.new.gates.words h) m (stands h lt (once.readers h lt e)))
-          (λ e. both_ways (member c.mark-readers-2.new.gates.words h) m (twice.readers h lt e));
+          (λ e. both_ways (member c.mark_readers-2.new.gates.words h) m (stands h lt (once.readers h lt e)))
+          (λ e. both_ways (member c.mark_readers-2.new.gates.words h) m (twice.readers h lt e));
     }

@@ -11,8 +11,8 @@ pub loop-n-preserved : goal.loop-n-preserved
 loop-n-preserved g c =
     let l = c.loop-n in
     settles_more g.F.Family.logic (contents c.args.wiring.now.net) c.args.ports.now c.args.drives.now c.args.levels.now c.args.nets.now.words c.args.wiring.now.net.head.gates
-    l.from l.nets.words l.levels l.gates.words l.invariant c.settle-net.ensures.long c.in-Some.n c.in-Some.ensures c.set.new.self.words c.set.ensures
-    c.settle-net.new.levels c.settle-net.new.gates.words c.settle-net.ensures.levels c.settle-net.ensures.kept c.settle-net.ensures.readers
+    l.from l.nets.words l.levels l.gates.words l.invariant c.settle_net.ensures.long c.in-Some.n c.in-Some.ensures c.set.new.self.words c.set.ensures
+    c.settle_net.new.levels c.settle_net.new.gates.words c.settle_net.ensures.levels c.settle_net.ensures.kept c.settle_net.ensures.readers
 
 pub loop-n-smaller : goal.loop-n-smaller
 loop-n-smaller g c =
@@ -27,8 +27,8 @@ returns g c =
     record {
       long = l.invariant.long;
       resolves = settles_all g.F.Family.logic (contents c.args.wiring.now.net) c.args.ports.now c.args.drives.now c.args.levels.now c.args.nets.now.words c.args.wiring.now.net.head.gates
-          l.from l.nets.words l.levels l.gates.words l.invariant c.in-default.ensures;
+          l.from l.nets.words l.levels l.gates.words l.invariant c.in_default.ensures;
       others = l.invariant.others;
-      empties = c.in-default.ensures;
+      empties = c.in_default.ensures;
       readers = l.invariant.readers;
     }

@@ -8,15 +8,15 @@ use Rattle.heap.proofs.sift.sift_down.Goals as goal
 pub returns-then-not-earlier : goal.returns-then-not-earlier
 returns-then-not-earlier c =
     let l = c.loop-at in
-    let child = c.first-child-child.result in
+    let child = c.first_child-child.result in
     let later = tested before l.heap child l.at (entry 0 0 0) _ (omega arith) (omega arith) c.if-not-earlier.ensures in
-    record { shuffled = l.invariant.0; heaped = sink_rests before strict l.heap l.at child (length l.heap) later c.first-child-child.ensures.least l.invariant.1 }
+    record { shuffled = l.invariant.0; heaped = sink_rests before strict l.heap l.at child (length l.heap) later c.first_child-child.ensures.least l.invariant.1 }
 
 pub loop-at-preserved : goal.loop-at-preserved
 loop-at-preserved c =
     let l = c.loop-at in
-    let child = c.first-child-child.result in
-    let is = c.first-child-child.ensures in
+    let child = c.first_child-child.result in
+    let is = c.first_child-child.ensures in
     let zs = c.swap.new.self in
     let told = c.swap.ensures in
     let sooner = tested before l.heap child l.at (entry 0 0 0) _ (omega arith) (omega arith) c.if-not-earlier.ensures in

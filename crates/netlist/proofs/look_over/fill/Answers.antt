@@ -4,27 +4,27 @@ use Rattle.netlist.specs.Checks.{verdict, nets_fault}
 use Rattle.netlist.proofs.Sofar.{answer_ok, answer_err}
 use Rattle.netlist.proofs.Accepted.{Read, read, facts, verdict_is, holds, net_driven}
 use Rattle.netlist.proofs.look_over.fill.Goals as goal
-use Rattle.netlist.proofs.look_over.fill.Goals.{In-ok-watches}
+use Rattle.netlist.proofs.look_over.fill.Goals.{In_ok-watches}
 
-got : (c : In-ok-watches) → Read c.args.bytes.now c.in-ok-head.head c.in-ok-gates.gates c.in-ok-watches.watches
-got c = read c.in-ok-head.ensures c.in-ok-gates.ensures c.in-ok-watches.ensures
+got : (c : In_ok-watches) → Read c.args.bytes.now c.in_ok-head.head c.in_ok-gates.gates c.in_ok-watches.watches
+got c = read c.in_ok-head.ensures c.in_ok-gates.ensures c.in_ok-watches.ensures
 
-pub returns-in-err-all-driven : goal.returns-in-err-all-driven
-returns-in-err-all-driven c =
-    let r = got (goal.at.returns-in-err-all-driven c).In-ok-watches in
-    let p = err_from_is_err_and c.from-residual-in-err-all-driven.result c.from-residual-in-err-all-driven.ensures.1 in
-    let v : verdict c.args.bytes.now ≡ Some c.in-err-all-driven.field-0.0 = verdict_is r ∙ answer_err _ tt _ c.in-err-all-driven.ensures in
+pub returns-in_err-all_driven : goal.returns-in_err-all_driven
+returns-in_err-all_driven c =
+    let r = got (goal.at.returns-in_err-all_driven c).In_ok-watches in
+    let p = err_from_is_err_and c.from_residual-in_err-all_driven.result c.from_residual-in_err-all_driven.ensures.1 in
+    let v : verdict c.args.bytes.now ≡ Some c.in_err-all_driven.field-0.0 = verdict_is r ∙ answer_err _ tt _ c.in_err-all_driven.ensures in
     record {
       answers = rw (p.1, p.2, v);
       fills = rw v refl;
     }
 
-pub invariant-of-place : goal.invariant-of-place
-invariant-of-place c =
-    let r = got (goal.at.invariant-of-place c).In-ok-watches in
+pub invariant_of-place : goal.invariant_of-place
+invariant_of-place c =
+    let r = got (goal.at.invariant_of-place c).In_ok-watches in
     let x = facts r in
-    let d = (answer_ok (nets_fault c.in-ok-head.head.ports (take (c.in-ok-head.head.gates - 0) c.in-ok-gates.gates) c.in-ok-head.head.nets) tt _ c.in-ok-all-driven.ensures).0 in
-    let z : c.in-ok-head.head.gates - 0 ≡ c.in-ok-head.head.gates = omega arith in (
+    let d = (answer_ok (nets_fault c.in_ok-head.head.ports (take (c.in_ok-head.head.gates - 0) c.in_ok-gates.gates) c.in_ok-head.head.nets) tt _ c.in_ok-all_driven.ensures).0 in
+    let z : c.in_ok-head.head.gates - 0 ≡ c.in_ok-head.head.gates = omega arith in (
       x.some,
       (
         x.nets,
@@ -55,7 +55,7 @@ invariant-of-place c =
                                 (
                                   λ g lt. ((x.good g lt).delay_low, (x.good g lt).delay_high),
                                   (
-                                    net_driven c.in-ok-head.head.ports (take c.in-ok-head.head.gates c.in-ok-gates.gates) c.in-ok-head.head.nets (rw z at d),
+                                    net_driven c.in_ok-head.head.ports (take c.in_ok-head.head.gates c.in_ok-gates.gates) c.in_ok-head.head.nets (rw z at d),
                                     (x.below, (x.rising, tt)),
                                   ),
                                 ),
@@ -76,8 +76,8 @@ invariant-of-place c =
 
 pub returns : goal.returns
 returns c =
-    let r = got (goal.at.returns c).In-ok-watches in
-    let d = (answer_ok (nets_fault c.in-ok-head.head.ports (take (c.in-ok-head.head.gates - 0) c.in-ok-gates.gates) c.in-ok-head.head.nets) tt _ c.in-ok-all-driven.ensures).0 in
+    let r = got (goal.at.returns c).In_ok-watches in
+    let d = (answer_ok (nets_fault c.in_ok-head.head.ports (take (c.in_ok-head.head.gates - 0) c.in_ok-gates.gates) c.in_ok-head.head.nets) tt _ c.in_ok-all_driven.ensures).0 in
     let v : verdict c.args.bytes.now ≡ None = verdict_is r ∙ d in
     record {
       answers = rw v;

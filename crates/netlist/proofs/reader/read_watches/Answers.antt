@@ -5,15 +5,15 @@ use Rattle.netlist.specs.declared.gate.Head.{Head}
 use Rattle.netlist.proofs.Sofar.{watches_refused, watches_more, watches_done}
 use Rattle.netlist.proofs.reader.read_watches.Goals as goal
 
-pub returns-in-err-watches : goal.returns-in-err-watches
-returns-in-err-watches c =
-    let p = err_from_is_err_and c.from-residual.result c.from-residual.ensures.1 in
+pub returns-in_err-watches : goal.returns-in_err-watches
+returns-in_err-watches c =
+    let p = err_from_is_err_and c.from_residual.result c.from_residual.ensures.1 in
     let n = ap (λ (h : Head). h.watches) c.requires.head in
     let lt : c.loop-i.i < word c.args.bytes.now 11 = omega (arith, n) in
-    rw (p.1, p.2, watches_refused _ _ _ c.loop-i.invariant _ lt c.in-err-watches.ensures)
+    rw (p.1, p.2, watches_refused _ _ _ c.loop-i.invariant _ lt c.in_err-watches.ensures)
 
 pub loop-i-preserved : goal.loop-i-preserved
-loop-i-preserved c = watches_more _ _ _ c.loop-i.invariant (omega arith) _ c.in-ok-watches.ensures
+loop-i-preserved c = watches_more _ _ _ c.loop-i.invariant (omega arith) _ c.in_ok-watches.ensures
 
 pub returns : goal.returns
 returns c =

@@ -4,8 +4,8 @@ use Rattle.number_set.specs.Digits.{digit}
 use Rattle.number_set.proofs.Digits.{joined_fits, joined_set, joined_rest}
 use Rattle.number_set.proofs.word.joined.Goals as goal
 
-pub overflow-add-result : goal.overflow-add-result
-overflow-add-result c = omega (arith, one_shl c.args.i 64 (search rules), joined_fits 64 c.args.i c.args.w (search rules) (search rules) (search rules))
+pub overflow_add-result : goal.overflow_add-result
+overflow_add-result c = omega (arith, one_shl c.args.i 64 (search rules), joined_fits 64 c.args.i c.args.w (search rules) (search rules) (search rules))
 
 pub returns : goal.returns
 returns c = record {

@@ -6,16 +6,16 @@ use Rattle.script.specs.Answers.{Obeys}
 use Rattle.script.proofs.Callings.{Alike, Interchange, wake_narrow, kept_rules, set_err, set_ok}
 use Rattle.script.proofs.line.wake.Goals as goal
 
-pub returns-in-err-at-line : goal.returns-in-err-at-line
-returns-in-err-at-line g c = λ trace.
+pub returns-in_err-at_line : goal.returns-in_err-at_line
+returns-in_err-at_line g c = λ trace.
     let x = c.args.run.now in
-    let e = c.in-err-at-line.field-0.0 in
-    let p = err_from_is_err_and c.from-residual.result c.from-residual.ensures.1 in
+    let e = c.in_err-at_line.field-0.0 in
+    let p = err_from_is_err_and c.from_residual.result c.from_residual.ensures.1 in
     let same : Interchange g.F.Family g.C.Calendar x (wake c.narrow.result c.args.code) (wake c.args.gate c.args.code) =
     λ C s h. subst (λ j. Alike g.F.Family.logic C s (wake j c.args.code) (wake c.args.gate c.args.code)) (sym c.narrow.ensures) (wake_narrow g.F.Family.logic C s (kept_rules g.F.Family g.C.Calendar C s x h) c.args.gate c.args.code) in
     subst (Obeys g.F.Family g.F.Named g.C.Calendar c.args.line (Wake c.args.gate c.args.code) x c.args.out.now trace c.wake.new.self c.args.out.now trace) (sym (p.1 ∙ ap Err p.2))
     (set_err g.F.Family g.F.Named g.C.Calendar c.args.line (Wake c.args.gate c.args.code) (wake c.narrow.result c.args.code) x c.wake.new.self c.wake.result c.wake.ensures.called c.wake.ensures.unchanged same c.args.out.now trace e
-    (sym c.at_line.ensures ∙ c.in-err-at-line.was))
+    (sym c.at_line.ensures ∙ c.in_err-at_line.was))
 
 pub returns : goal.returns
 returns g c = λ trace.
@@ -23,4 +23,4 @@ returns g c = λ trace.
     let same : Interchange g.F.Family g.C.Calendar x (wake c.narrow.result c.args.code) (wake c.args.gate c.args.code) =
     λ C s h. subst (λ j. Alike g.F.Family.logic C s (wake j c.args.code) (wake c.args.gate c.args.code)) (sym c.narrow.ensures) (wake_narrow g.F.Family.logic C s (kept_rules g.F.Family g.C.Calendar C s x h) c.args.gate c.args.code) in
     set_ok g.F.Family g.F.Named g.C.Calendar c.args.line (Wake c.args.gate c.args.code) (wake c.narrow.result c.args.code) x c.wake.new.self c.wake.result c.wake.ensures.called c.wake.ensures.unchanged same c.args.out.now trace tt
-    (sym c.at_line.ensures ∙ c.in-ok-at-line.was) c.say-ok.new.out c.say-ok.result c.requires c.say-ok.ensures (λ C s. refl)
+    (sym c.at_line.ensures ∙ c.in_ok-at_line.was) c.say_ok.new.out c.say_ok.result c.requires c.say_ok.ensures (λ C s. refl)

@@ -8,6 +8,6 @@ returns g c =
     let L = g.F.Family.logic in
     let N = g.F.Named.naming in
     record {
-      reads = c.read-command.ensures;
-      exactly = subst (Exactly L N c.args.line.now) (sym c.read-command.ensures) (exactly L N g.met.F.Family.laws g.met.F.Named.spelling c.args.line.now);
+      reads = c.read_command.ensures;
+      exactly = subst (Exactly L N c.args.line.now) (sym c.read_command.ensures) (exactly L N g.met.F.Family.laws g.met.F.Named.spelling c.args.line.now);
     }

@@ -6,4 +6,4 @@ pub returns-then-at-line : goal.returns-then-at-line
 returns-then-at-line c = let past : length c.args.line.now ≤ c.args.at = omega arith in rw (drop_all c.args.at c.args.line.now past)
 
 pub returns : goal.returns
-returns c = rw (take_rest c.args.line.now c.args.at) at c.read-number.ensures
+returns c = rw (take_rest c.args.line.now c.args.at) at c.read_number.ensures

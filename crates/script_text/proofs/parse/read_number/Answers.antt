@@ -3,20 +3,20 @@ use Rattle.std.proofs.lemmas.Bool.Decides.{nat_tests}
 use Rattle.script_text.proofs.Numbers.{Sofar, room, digit_more, digit_none, digits_done}
 use Rattle.script_text.proofs.parse.read_number.Goals as goal
 
-pub overflow-mul-n : goal.overflow-mul-n
-overflow-mul-n c = let r = room _ _ _ c.loop-d.invariant (omega arith) in omega (arith, r)
+pub overflow_mul-n : goal.overflow_mul-n
+overflow_mul-n c = let r = room _ _ _ c.loop-d.invariant (omega arith) in omega (arith, r)
 
-pub overflow-add-n : goal.overflow-add-n
-overflow-add-n c = let r = room _ _ _ c.loop-d.invariant (omega arith) in omega (arith, r)
+pub overflow_add-n : goal.overflow_add-n
+overflow_add-n c = let r = room _ _ _ c.loop-d.invariant (omega arith) in omega (arith, r)
 
-pub returns-in-default : goal.returns-in-default
-returns-in-default c =
+pub returns-in_default : goal.returns-in_default
+returns-in_default c =
     let no_digit : (leb 48 (get_or c.args.digits.now c.loop-d.d-index 0) && leb (get_or c.args.digits.now c.loop-d.d-index 0) 57) ≡ false = grind (arith, nat_tests) in
     let none = digit_none _ _ _ c.loop-d.invariant c.loop-d-test.true no_digit in
     grind (arith, nat_tests, none)
 
-pub returns-in-default·2 : goal.returns-in-default·2
-returns-in-default·2 c =
+pub returns-in_default·2 : goal.returns-in_default·2
+returns-in_default·2 c =
     let no_digit : (leb 48 (get_or c.args.digits.now c.loop-d.d-index 0) && leb (get_or c.args.digits.now c.loop-d.d-index 0) 57) ≡ false = grind (arith, nat_tests) in
     let none = digit_none _ _ _ c.loop-d.invariant c.loop-d-test.true no_digit in
     grind (arith, nat_tests, none)

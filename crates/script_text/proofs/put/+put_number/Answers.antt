@@ -9,4 +9,4 @@ returns-then-n-lt10 t c = let e = decimal_digit c.args.n c.if-n-lt10.true in rw 
 pub returns : goal.returns
 returns t c =
     let e = decimal_step c.args.n c.if-n-lt10.false (omega arith) in
-    rw e (lays_then (decimal (c.args.n / 10)) ((48 + c.args.n % 10) ∷ []) c.put-number-end.ensures c.put-2.ensures)
+    rw e (lays_then (decimal (c.args.n / 10)) ((48 + c.args.n % 10) ∷ []) c.put_number-end.ensures c.put-2.ensures)

@@ -12,7 +12,7 @@ loop-i-preserved g c =
     let name = g.F.Named.naming.name c.args.v in
     let i = c.loop-i.i in
     let long = g.met.F.Named.spelling.name_long c.args.v in
-    let inside : i < length name = omega (arith, long, c.name-width-i-end.ensures, c.loop-i-test.true) in
+    let inside : i < length name = omega (arith, long, c.name_width-i-end.ensures, c.loop-i-test.true) in
     let e : take i name ++ (c.name_byte.result ∷ []) ≡ take (i + 1) name = ap (λ b. take i name ++ (b ∷ [])) c.name_byte.ensures ∙ sym (take_more name i 0 inside) in
     subst (λ text. Lays c.args.out.now c.args.at text c.put-end.result c.put-end.new.out) e (lays_then (take i name) (c.name_byte.result ∷ []) c.loop-i.invariant c.put-end.ensures)
 
@@ -20,5 +20,5 @@ pub returns : goal.returns
 returns g c =
     let name = g.F.Named.naming.name c.args.v in
     let long = g.met.F.Named.spelling.name_long c.args.v in
-    let e = take_all c.loop-i.i name (omega (arith, long, c.name-width-i-end.ensures, c.loop-i-test.false)) in
+    let e = take_all c.loop-i.i name (omega (arith, long, c.name_width-i-end.ensures, c.loop-i-test.false)) in
     subst (λ text. Lays c.args.out.now c.args.at text c.loop-i.end c.loop-i.out) e c.loop-i.invariant

@@ -12,9 +12,9 @@ returns g c =
     let tick = c.number32-tick.result in
     let net = c.number16-net.result in
     let code = c.number16-code.result in
-    let whole = lays_then (decimal tick) _ c.put-number-a.ensures
+    let whole = lays_then (decimal tick) _ c.put_number-a.ensures
     (lays_then (32 ∷ []) _ c.put-b.ensures
-    (lays_then (decimal net) _ c.put-number-c.ensures
+    (lays_then (decimal net) _ c.put_number-c.ensures
     (lays_then (32 ∷ []) _ c.put-d.ensures
-    (lays_then (name_of L N code) (10 ∷ []) c.put-name-e.ensures c.put.ensures)))) in
+    (lays_then (name_of L N code) (10 ∷ []) c.put_name-e.ensures c.put.ensures)))) in
     subst (λ t. Lays c.args.out.now c.args.at t c.put.result c.put.new.out) (λ i. record_text L N (c.number32-tick.ensures i) (c.number16-net.ensures i) (c.number16-code.ensures i)) whole

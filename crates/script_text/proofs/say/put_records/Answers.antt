@@ -13,8 +13,8 @@ loop-i-preserved g c =
     let N = g.F.Named.naming in
     let trace = c.args.trace.now in
     let i = c.loop-i.i in
-    subst (λ n. Lays c.args.out.now 0 (records_text L N trace n) c.put-record-end.result c.put-record-end.new.out) (sym (add-one i))
-    (lays_then (records_text L N trace i) (record_at L N trace i) c.loop-i.invariant c.put-record-end.ensures)
+    subst (λ n. Lays c.args.out.now 0 (records_text L N trace n) c.put_record-end.result c.put_record-end.new.out) (sym (add-one i))
+    (lays_then (records_text L N trace i) (record_at L N trace i) c.loop-i.invariant c.put_record-end.ensures)
 
 pub returns : goal.returns
 returns g c =

@@ -23,16 +23,16 @@ loop-g-preserved g c =
     let here : gate C i ≡ get_or net.gates i blank = get_or-take net.head.gates net.gates i blank c.loop-g-test.true in
     let R = result_of L (get_or net.gates i blank) levels in
     let r : R ≡ result L C levels i = ap (λ x. result_of L x levels) (sym here) in
-    let p = c.plan-gate.ensures.planned in
+    let p = c.plan_gate.ensures.planned in
     let small = net.table in
-    let inside : i < length now = omega (arith, c.plan-gate.ensures.long, c.loop-g-test.true, small) in (
+    let inside : i < length now = omega (arith, c.plan_gate.ensures.long, c.loop-g-test.true, small) in (
       ap length p ∙ length-set now i R ∙ inv.0,
       (λ k h. ap (λ l. get_or l k L.unset) p ∙ ⊎_elim
           (λ e. ap (λ j. get_or (set now i R) j L.unset) e ∙ get_or-set_same now i R L.unset inside ∙ r ∙ ap (result L C levels) (sym e))
           (λ ne. get_or-set_other now i k R L.unset ne ∙ inv.1 k (omega arith))
           (cases_eq k i)),
       (λ k h. ap (λ l. get_or l k L.unset) p ∙ get_or-set_other now i k R L.unset (λ e. omega arith) ∙ inv.2 k (omega arith)),
-      c.plan-gate.ensures.calendar
+      c.plan_gate.ensures.calendar
           ∙ (λ j. put_changed L (sym here j).delay i c.args.moment.tick (result_of L (sym here j) levels) (inv.2 i (omega arith) j) (inv.3 j))
           ∙ sym (ap (λ k. plans L C levels was c.args.moment.tick k (g.C.Calendar.meaning c.args.calendar.now)) (add-one i)),
     )

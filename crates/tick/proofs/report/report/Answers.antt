@@ -28,4 +28,4 @@ returns g c =
     let out = c.args.out.now in
     let C = contents c.args.net.now in
     let e : leb (c.args.at + 8 * length C.watches) (length out) ≡ true = le-leb (c.args.at + 8 * length C.watches) (length out) (omega (arith, watch_count c.args.net.now, c.if-out-at.false, c.if-at-out.false)) in
-    subst (λ b. Wrote out c.args.at (flat_map change_bytes (cond b (changed g.F.Family.logic C c.args.old.now c.args.new.now c.args.tick) [])) c.report-all.result c.report-all.new.out) (sym e) c.report-all.ensures
+    subst (λ b. Wrote out c.args.at (flat_map change_bytes (cond b (changed g.F.Family.logic C c.args.old.now c.args.new.now c.args.tick) [])) c.report_all.result c.report_all.new.out) (sym e) c.report_all.ensures

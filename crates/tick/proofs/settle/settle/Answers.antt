@@ -20,7 +20,7 @@ loop-g-preserved g c =
     let drives = c.args.drives.now in
     let ports = c.args.ports.now in
     let here : gate C i ≡ x = get_or-take net.head.gates net.gates i blank c.loop-g-test.true in
-    let d = get_or_default drives i c.index-drives-g.result L.unset (omega (arith, c.type-inv.drives, c.loop-g-test.true, net.table)) in
+    let d = get_or_default drives i c.index-drives-g.result L.unset (omega (arith, c.type_inv.drives, c.loop-g-test.true, net.table)) in
     let inside : x.out < 1024 = omega (arith, net.outs i c.loop-g-test.true, net.nets) in
     let vs = λ (n : ℕ). drivers_below L C ports drives n (i + 1) in
     subst (λ m. Shows L c.join.new.levels m vs) (sym c.join.ensures.marks)

@@ -4,8 +4,8 @@ use Rattle.wheel.specs.Digits.{digit}
 use Rattle.wheel.proofs.Digits.{set_le, without_clear, without_rest}
 use Rattle.wheel.proofs.word.without.Goals as goal
 
-pub overflow-sub-result : goal.overflow-sub-result
-overflow-sub-result c = omega (arith, one_shl c.args.i 64 (search rules), set_le c.args.i c.args.w (search rules))
+pub overflow_sub-result : goal.overflow_sub-result
+overflow_sub-result c = omega (arith, one_shl c.args.i 64 (search rules), set_le c.args.i c.args.w (search rules))
 
 pub returns : goal.returns
 returns c = record {

@@ -32,8 +32,8 @@ returns c =
     let stands = put_stands a e (omega arith) (omega arith) (omega arith) (sym (h.marked c.args.tick c.args.gate (omega arith, omega arith, omega arith)) ∙ sym c.if-stands.ensures) (omega arith) in
     record { answer = sym (ap (outcome a) stands); after = (λ i. record { today = h.today; gates = 1024; capacity = c.push.ensures.size i; waiting = c.push.ensures.items i }) ∙ sym (ap (λ o. unless o a (with_waiting a (placed before e a.waiting))) stands) }
 
-pub invariant-of-self : goal.invariant-of-self
-invariant-of-self c =
+pub invariant_of-self : goal.invariant_of-self
+invariant_of-self c =
     let h = c.args.self.now in
     let xs = h.pile.entries.now in
     let n = h.pile.len in

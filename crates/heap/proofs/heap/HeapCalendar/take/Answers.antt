@@ -15,8 +15,8 @@ mark-requires c =
     let e = c.pop-e.result in
     (due_parts a.today a.gates e (first_due a e h.sound (sym (ap first c.pop-e.ensures.items)))).2
 
-pub invariant-of-self : goal.invariant-of-self
-invariant-of-self c =
+pub invariant_of-self : goal.invariant_of-self
+invariant_of-self c =
     let h = c.args.self.now in
     let a = heap_agenda h.today h.pile.len h.pile.entries.now in
     let told = c.pop-e.ensures in

@@ -4,5 +4,5 @@ use Rattle.number_set.proofs.set.NumberSet.set.Goals as goal
 
 pub returns : goal.returns
 returns c =
-    let w = c.with-bit-word in
+    let w = c.with_bit-word in
     set_there c.args.self.now.words c.args.n w.result c.args.on (omega arith) c.args.self.now.long w.ensures.here w.ensures.rest

@@ -9,12 +9,12 @@ use Rattle.run.proofs.Callings.{advance_refused, unfit, unready, is_ready, never
 use Rattle.run.proofs.Advances.{going_none, going_more, gone, room_is}
 use Rattle.run.proofs.state.Run.advance.Goals as goal
 
-pub returns-in-err-ready : goal.returns-in-err-ready
-returns-in-err-ready g c =
+pub returns-in_err-ready : goal.returns-in_err-ready
+returns-in_err-ready g c =
     let x = c.args.self.now in
     let out = c.args.out.now in
-    let u = unready x.fit x.ticks c.in-err-ready.field-0.0 (sym c.ready.ensures ∙ c.in-err-ready.was) in
-    let p = err_from_is_err_and c.from-residual.result c.from-residual.ensures.1 in
+    let u = unready x.fit x.ticks c.in_err-ready.field-0.0 (sym c.ready.ensures ∙ c.in_err-ready.was) in
+    let p = err_from_is_err_and c.from_residual.result c.from_residual.ensures.1 in
     subst (Advanced g.F.Family g.C.Calendar x c.args.k out x out) (sym (p.1 ∙ ap Err (p.2 ∙ u.1)))
     (advance_refused g.F.Family g.C.Calendar x (UnfitCalendar x.ticks) refl c.args.k out
     (λ C s h. unfit g.F.Family g.C.Calendar C s x h (advance c.args.k (length out)) u.0))
@@ -25,7 +25,7 @@ returns-then-k-eq0 g c =
     let L = g.F.Family.logic in
     let k = c.args.k in
     let n = length c.args.out.now in
-    let on = is_ready x.fit x.ticks tt (sym c.ready.ensures ∙ c.in-ok-ready.was) in
+    let on = is_ready x.fit x.ticks tt (sym c.ready.ensures ∙ c.in_ok-ready.was) in
     advance_refused g.F.Family g.C.Calendar x (ZeroTicks x.ticks) refl k c.args.out.now (λ C s h.
     let e₁ : not s.fit ≡ false = fit_on g.F.Family g.C.Calendar C s x h on in
     let e₂ : eqb k 0 ≡ true = eq-eqb k 0 c.if-k-eq0.true in
@@ -37,7 +37,7 @@ returns-then-k-self g c =
     let L = g.F.Family.logic in
     let k = c.args.k in
     let n = length c.args.out.now in
-    let on = is_ready x.fit x.ticks tt (sym c.ready.ensures ∙ c.in-ok-ready.was) in
+    let on = is_ready x.fit x.ticks tt (sym c.ready.ensures ∙ c.in_ok-ready.was) in
     advance_refused g.F.Family g.C.Calendar x (TooManyTicks x.ticks) refl k c.args.out.now (λ C s h.
     let e₁ : not s.fit ≡ false = fit_on g.F.Family g.C.Calendar C s x h on in
     let e₂ : eqb k 0 ≡ false = ne_eqb k 0 c.if-k-eq0.false in
@@ -50,7 +50,7 @@ returns-then-out-room g c =
     let L = g.F.Family.logic in
     let k = c.args.k in
     let n = length c.args.out.now in
-    let on = is_ready x.fit x.ticks tt (sym c.ready.ensures ∙ c.in-ok-ready.was) in
+    let on = is_ready x.fit x.ticks tt (sym c.ready.ensures ∙ c.in_ok-ready.was) in
     advance_refused g.F.Family g.C.Calendar x (ShortBuffer x.ticks) refl k c.args.out.now (λ C s h.
     let e₁ : not s.fit ≡ false = fit_on g.F.Family g.C.Calendar C s x h on in
     let e₂ : eqb k 0 ≡ false = ne_eqb k 0 c.if-k-eq0.false in
@@ -58,8 +58,8 @@ returns-then-out-room g c =
     let e₄ : ltb n (tick_room L C) ≡ true = lt-ltb n (tick_room L C) (omega (arith, room_is g.F.Family g.C.Calendar C s x h, c.if-out-room.true)) in
     λ i. first_of ((e₁ i, 16) ∷ (e₂ i, 19) ∷ (e₃ i, 20) ∷ (e₄ i, 21) ∷ []))
 
-pub overflow-add-done : goal.overflow-add-done
-overflow-add-done g c = let le : c.loop-done.done + 1 ≤ c.args.k = omega (arith, c.loop-done-test.true) in Fits-le le c.ranges.k
+pub overflow_add-done : goal.overflow_add-done
+overflow_add-done g c = let le : c.loop-done.done + 1 ≤ c.args.k = omega (arith, c.loop-done-test.true) in Fits-le le c.ranges.k
 
 pub loop-done-init : goal.loop-done-init
 loop-done-init g c = (omega arith, omega arith, omega arith, refl, λ C s on h. going_none g.F.Family g.C.Calendar C s c.args.k c.args.out.now c.args.self.now h)
@@ -84,7 +84,7 @@ returns-else-out-end g c =
     let L = g.F.Family.logic in
     let k = c.args.k in
     let n = length c.args.out.now in
-    let on = is_ready x.fit x.ticks tt (sym c.ready.ensures ∙ c.in-ok-ready.was) in
+    let on = is_ready x.fit x.ticks tt (sym c.ready.ensures ∙ c.in_ok-ready.was) in
     record {
       called = λ C s h.
           let e₁ : not s.fit ≡ false = fit_on g.F.Family g.C.Calendar C s x h on in
@@ -108,7 +108,7 @@ returns-after-loop-done g c =
     let L = g.F.Family.logic in
     let k = c.args.k in
     let n = length c.args.out.now in
-    let on = is_ready x.fit x.ticks tt (sym c.ready.ensures ∙ c.in-ok-ready.was) in
+    let on = is_ready x.fit x.ticks tt (sym c.ready.ensures ∙ c.in_ok-ready.was) in
     record {
       called = λ C s h.
           let e₁ : not s.fit ≡ false = fit_on g.F.Family g.C.Calendar C s x h on in

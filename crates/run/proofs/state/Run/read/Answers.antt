@@ -7,11 +7,11 @@ use Rattle.run.specs.Calls.{Reads}
 use Rattle.run.proofs.Callings.{call_refused, unfit, unready, is_ready, accepts, fit_on, nets_count, read_level}
 use Rattle.run.proofs.state.Run.read.Goals as goal
 
-pub returns-in-err-ready : goal.returns-in-err-ready
-returns-in-err-ready g c =
+pub returns-in_err-ready : goal.returns-in_err-ready
+returns-in_err-ready g c =
     let x = c.args.self.now in
-    let u = unready x.fit x.ticks c.in-err-ready.field-0.0 (sym c.ready.ensures ∙ c.in-err-ready.was) in
-    let p = err_from_is_err_and c.from-residual.result c.from-residual.ensures.1 in
+    let u = unready x.fit x.ticks c.in_err-ready.field-0.0 (sym c.ready.ensures ∙ c.in_err-ready.was) in
+    let p = err_from_is_err_and c.from_residual.result c.from_residual.ensures.1 in
     subst (Reads g.F.Family g.C.Calendar x c.args.net) (sym (p.1 ∙ ap Err (p.2 ∙ u.1)))
     (call_refused g.F.Family g.C.Calendar x (UnfitCalendar x.ticks) refl (read c.args.net) (λ C s h. unfit g.F.Family g.C.Calendar C s x h (read c.args.net) u.0))
 
@@ -19,7 +19,7 @@ pub returns-then-net-self : goal.returns-then-net-self
 returns-then-net-self g c =
     let x = c.args.self.now in
     let n = c.args.net in
-    let on = is_ready x.fit x.ticks tt (sym c.ready.ensures ∙ c.in-ok-ready.was) in
+    let on = is_ready x.fit x.ticks tt (sym c.ready.ensures ∙ c.in_ok-ready.was) in
     call_refused g.F.Family g.C.Calendar x (NoSuchNet x.ticks) refl (read n) (λ C s h.
     let e₁ : not s.fit ≡ false = fit_on g.F.Family g.C.Calendar C s x h on in
     let e₂ : leb C.nets n ≡ true = le-leb C.nets n (omega (arith, nets_count g.F.Family g.C.Calendar C s x h, c.if-net-self.true)) in
@@ -29,7 +29,7 @@ pub returns-then-self-eq0 : goal.returns-then-self-eq0
 returns-then-self-eq0 g c =
     let x = c.args.self.now in
     let n = c.args.net in
-    let on = is_ready x.fit x.ticks tt (sym c.ready.ensures ∙ c.in-ok-ready.was) in
+    let on = is_ready x.fit x.ticks tt (sym c.ready.ensures ∙ c.in_ok-ready.was) in
     call_refused g.F.Family g.C.Calendar x (WrongTime x.ticks) refl (read n) (λ C s h.
     let e₁ : not s.fit ≡ false = fit_on g.F.Family g.C.Calendar C s x h on in
     let e₂ : leb C.nets n ≡ false = lt-leb C.nets n (omega (arith, nets_count g.F.Family g.C.Calendar C s x h, c.if-net-self.false)) in
@@ -41,7 +41,7 @@ returns g c C s h =
     let x = c.args.self.now in
     let L = g.F.Family.logic in
     let n = c.args.net in
-    let on = is_ready x.fit x.ticks tt (sym c.ready.ensures ∙ c.in-ok-ready.was) in
+    let on = is_ready x.fit x.ticks tt (sym c.ready.ensures ∙ c.in_ok-ready.was) in
     let e₁ : not s.fit ≡ false = fit_on g.F.Family g.C.Calendar C s x h on in
     let e₂ : leb C.nets n ≡ false = lt-leb C.nets n (omega (arith, nets_count g.F.Family g.C.Calendar C s x h, c.if-net-self.false)) in
     let e₃ : eqb s.ticks 0 ≡ false = ne_eqb s.ticks 0 (λ z. c.if-self-eq0.false (h.fits.ticks_are ∙ z)) in

@@ -8,11 +8,11 @@ use Rattle.run.proofs.Leans.{steady}
 use Rattle.run.proofs.Ticks.{ticked, few_more, roomy}
 use Rattle.run.proofs.state.Run.work_calm.Goals as goal
 
-pub invariant-of-self-2 : goal.invariant-of-self-2
-invariant-of-self-2 g c =
+pub invariant_of-self-2 : goal.invariant_of-self-2
+invariant_of-self-2 g c =
     let x = c.args.self.now in
     let net = x.wiring.net in
-    let levels = c.work-changed.new.levels in
+    let levels = c.work_changed.new.levels in
     let wrote = roomy g.F.Family.logic net x.levels levels x.ticks c.args.at c.args.out.now c.report-end.result c.report-end.new.out c.requires.room c.report-end.ensures in
     let bytes = bytes_few g.F.Family.logic (contents net) x.levels levels x.ticks (contents net).watches in (
       omega (arith, c.requires.early),
@@ -24,8 +24,8 @@ returns g c =
     let x = c.args.self.now in
     let L = g.F.Family.logic in
     let net = x.wiring.net in
-    let levels = c.work-changed.new.levels in
-    let worked = c.work-changed.ensures in
+    let levels = c.work_changed.new.levels in
+    let worked = c.work_changed.ensures in
     let a₁ = g.C.Calendar.meaning c.turn.new.self in
     let wrote = roomy L net x.levels levels x.ticks c.args.at c.args.out.now c.report-end.result c.report-end.new.out c.requires.room c.report-end.ensures in
     record {
@@ -33,8 +33,8 @@ returns g c =
           let f = h.fits in
           let s₀ = steady L net s t n (g.C.Calendar.meaning x.calendar) x.fit x.calm x.ports x.drives x.planned x.levels x.ticks x.records f c.requires.calm in
           let r = ticked g.met.F.Family.laws net s t n (g.C.Calendar.meaning x.calendar) x.fit x.calm x.ports x.drives x.planned x.levels x.ticks x.records f on c.requires.early
-          a₁ (with_waiting a₁ (left_over x.ticks a₁.waiting)) (g.C.Calendar.meaning c.work-changed.new.calendar)
-          c.work-changed.new.drives c.work-changed.new.planned levels c.args.out.now c.report-end.new.out c.args.at c.report-end.result
+          a₁ (with_waiting a₁ (left_over x.ticks a₁.waiting)) (g.C.Calendar.meaning c.work_changed.new.calendar)
+          c.work_changed.new.drives c.work_changed.new.planned levels c.args.out.now c.report-end.new.out c.args.at c.report-end.result
           c.turn.ensures.after worked.drives refl (worked.long ∙ f.held.levels_long) (worked.levels s₀)
           wrote worked.wide (worked.planned s₀) (worked.calendar s₀) C h.board in
           (record { board = h.board; fits = r.0 }, r.1);

@@ -8,6 +8,6 @@ loop-tick-init c = λ u h a b d. c.requires.clear u h (a, b, d)
 
 pub loop-tick-preserved : goal.loop-tick-preserved
 loop-tick-preserved c = λ u h a b d. ⊎_elim
-    (λ e. ap (λ z. table c.args.self.now.gates c.args.self.now.roster.words c.args.self.now.codes.now z h) e ∙ c.in-default.ensures h d)
+    (λ e. ap (λ z. table c.args.self.now.gates c.args.self.now.roster.words c.args.self.now.codes.now z h) e ∙ c.in_default.ensures h d)
     (λ n. c.loop-tick.invariant u h a (omega arith) d)
     (cases_eq u c.loop-tick.tick)

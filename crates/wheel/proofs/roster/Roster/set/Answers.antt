@@ -8,8 +8,8 @@ returns c =
     let ms = c.args.self.now.marks in
     let row = c.args.row in
     let gate = c.args.gate in
-    let w = c.with-bit-word in
-    let m = c.with-bit-mark in
+    let w = c.with_bit-word in
+    let m = c.with_bit-mark in
     record {
       words = length-set ws (row * 16 + gate / 64) w.result ∙ c.requires.words;
       marks = length-set ms row m.result ∙ c.requires.marks;

@@ -5,16 +5,16 @@ use Rattle.wheel.specs.Rings.{wheel_agenda, Soonest}
 use Rattle.wheel.proofs.Wheels.{new_rows, unsummed, absent, soonest_none}
 use Rattle.wheel.proofs.wheel.Wheel.new.Goals as goal
 
-pub invariant-of-result : goal.invariant-of-result
-invariant-of-result c =
-    let G = c.gates-of-gates.result in
+pub invariant_of-result : goal.invariant_of-result
+invariant_of-result c =
+    let G = c.gates_of-gates.result in
     let ys = c.args.buffer.now in
     let none = new_rows 1040 G ys in
     let is : wheel_agenda 0 G (replicate 1040 0) ys ≡ new_agenda G (64 * G) = (λ i. record { today = 0; gates = G; capacity = 64 * G; waiting = none i }) in
-    (omega (arith, c.gates-of-gates.ensures), (omega (arith, c.gates-of-gates.ensures), (refl, (refl, (unsummed 1040 65, ((λ r g k. absent 1040 r g), (omega arith, (sym (ap length none), (ap sound is ∙ le-leb 0 (64 * G) (omega arith), (subst (λ z. Soonest z 0) (sym none) (soonest_none 0), tt))))))))))
+    (omega (arith, c.gates_of-gates.ensures), (omega (arith, c.gates_of-gates.ensures), (refl, (refl, (unsummed 1040 65, ((λ r g k. absent 1040 r g), (omega arith, (sym (ap length none), (ap sound is ∙ le-leb 0 (64 * G) (omega arith), (subst (λ z. Soonest z 0) (sym none) (soonest_none 0), tt))))))))))
 
 pub returns : goal.returns
 returns c =
-    let G = c.gates-of-gates.result in
+    let G = c.gates_of-gates.result in
     let none = new_rows 1040 G c.args.buffer.now in
-    (λ i. record { today = 0; gates = G; capacity = 64 * G; waiting = none i }) ∙ ap (λ g. new_agenda g (64 * g)) c.gates-of-gates.ensures
+    (λ i. record { today = 0; gates = G; capacity = 64 * G; waiting = none i }) ∙ ap (λ g. new_agenda g (64 * g)) c.gates_of-gates.ensures

@@ -42,8 +42,8 @@ returns-then-self c =
     let full = put_full a e (omega arith) (omega arith) (omega arith) alone (omega arith) in
     record { answer = sym (ap (outcome a) full); after = sym (ap (λ o. unless o a (with_waiting a (placed before e a.waiting))) full) }
 
-pub invariant-of-self : goal.invariant-of-self
-invariant-of-self c =
+pub invariant_of-self : goal.invariant_of-self
+invariant_of-self c =
     let w = c.args.self.now in
     let G = w.ring.gates in
     let ws = w.ring.roster.words in

@@ -27,8 +27,8 @@ head-requires c =
       clear = soon_clear f w.ring.gates w.today w.soon due (omega arith) w.soonest;
     }
 
-pub head-tick-self-requires : goal.head-tick-self-requires
-head-tick-self-requires c =
+pub head_tick-self-requires : goal.head_tick-self-requires
+head_tick-self-requires c =
     let w = c.args.self.now in
     let G = w.ring.gates in
     let f = table G w.ring.roster.words w.ring.codes.now in
@@ -45,8 +45,8 @@ head-tick-self-requires c =
       clear = subst (λ z. Clear (table z vs ys) w.today e.tick z) (sym told.gates) (still_clear f (table G vs ys) (λ u h. eqb (u % 65) (e.tick % 65) && eqb h e.gate) G w.today e.tick told.changed place.5);
     }
 
-pub invariant-of-self : goal.invariant-of-self
-invariant-of-self c =
+pub invariant_of-self : goal.invariant_of-self
+invariant_of-self c =
     let w = c.args.self.now in
     let G = w.ring.gates in
     let ws = w.ring.roster.words in
@@ -64,7 +64,7 @@ invariant-of-self c =
     let rows_are : rows (table last.gates vs ys) w.today 65 last.gates ≡ list.0 = (λ i. rows (table (told.gates i) vs ys) w.today 65 (told.gates i)) ∙ took in
     let is : wheel_agenda w.today last.gates vs ys ≡ with_waiting a (rest a.waiting) = (λ i. record { today = w.today; gates = told.gates i; capacity = 64 * told.gates i; waiting = (rows_are ∙ sym (ap rest list.1)) i }) in
     let shape = told.shape in
-    (shape.wide, (shape.few, (shape.words, (shape.marks, (shape.summed, (shape.inside, (w.fits, (omega (arith, ap length rows_are, ap length list.1), (ap sound is ∙ sound_taken a w.sound, (c.head-tick-self.ensures, tt))))))))))
+    (shape.wide, (shape.few, (shape.words, (shape.marks, (shape.summed, (shape.inside, (w.fits, (omega (arith, ap length rows_are, ap length list.1), (ap sound is ∙ sound_taken a w.sound, (c.head_tick-self.ensures, tt))))))))))
 
 pub returns-in-Some : goal.returns-in-Some
 returns-in-Some c =
