@@ -1,4 +1,4 @@
-use Rattle.std.proofs.Common.{◌≡◌, ◌+◌, ◌<◌, ◌≤◌, true, length, take, set, sym, refl, ap, ◌∙◌, subst, arith, length-set, length-take-le, rules}
+use Rattle.std.proofs.Common.{◌≡◌, true, length, take, set, sym, ap, ◌∙◌, subst, arith, length-set, length-take-le}
 use Rattle.calendar.specs.Table.{slot}
 use Rattle.heap.specs.Marks.{Marked}
 use Rattle.heap.proofs.Marking.{marked_put}

@@ -1,4 +1,4 @@
-use Rattle.std.proofs.Common.{◌≡◌, false, ◌∷◌, length, take, set, sym, refl, ap, ◌∙◌, subst, arith, length-set}
+use Rattle.std.proofs.Common.{◌≡◌, false, length, take, sym, ap, ◌∙◌, subst, arith, length-set}
 use Rattle.calendar.specs.Agenda.{before, with_waiting, sound, rest, first, rising}
 use Rattle.heap.specs.Heaps.{heap_agenda}
 use Rattle.calendar.specs.Order.{in_order}

@@ -1,5 +1,4 @@
-use Rattle.std.proofs.Common.{◌≡◌, sym, refl, ap, ◌∙◌, arith, rules}
-use Rattle.calendar.specs.Agenda.{before, with_waiting, sound, rest}
+use Rattle.std.proofs.Common.{sym, arith}
 use Rattle.heap.specs.Heaps.{heap_agenda}
 use Rattle.calendar.proofs.Sound.{sound_turned, sound_rising, sound_due}
 use Rattle.heap.proofs.Marking.{marked_turned}
