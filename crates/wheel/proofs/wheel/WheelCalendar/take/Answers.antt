@@ -1,4 +1,4 @@
-use Rattle.std.proofs.Common.{◌≡◌, ◌*◌, ◌%◌, ◌&&◌, eqb, length, sym, refl, ap, ◌∙◌, subst, arith}
+use Rattle.std.proofs.Common.{◌≡◌, ◌*◌, ◌%◌, ◌&&◌, eqb, length, sym, ap, ◌∙◌, subst, arith}
 use Rattle.calendar.specs.Agenda.{with_waiting, sound, rest}
 use Rattle.calendar.specs.Table.{rows}
 use Rattle.calendar.proofs.Sound.{sound_taken, sound_due}

@@ -1,4 +1,4 @@
-use Rattle.std.proofs.Common.{◌≡◌, ◌*◌, length, sym, refl, ap, ◌∙◌, subst, arith}
+use Rattle.std.proofs.Common.{◌≡◌, ◌*◌, length, sym, ap, ◌∙◌, subst, arith}
 use Rattle.calendar.specs.Agenda.{at_tick, sound, outcome, unless}
 use Rattle.calendar.proofs.Faults.{turn_stands}
 use Rattle.calendar.proofs.Sound.{sound_turned}
