@@ -24,55 +24,27 @@ invariant_of-place c =
     let r = got (goal.at.invariant_of-place c).In_ok-watches in
     let x = facts r in
     let d = (answer_ok (nets_fault c.in_ok-head.head.ports (take (c.in_ok-head.head.gates - 0) c.in_ok-gates.gates) c.in_ok-head.head.nets) tt _ c.in_ok-all_driven.ensures).0 in
-    let z : c.in_ok-head.head.gates - 0 ≡ c.in_ok-head.head.gates = omega arith in (
-      x.some,
-      (
-        x.nets,
-        (
-          x.ports,
-          (
-            x.few,
-            (
-              x.watched,
-              (
-                x.list,
-                (
-                  x.wide,
-                  (
-                    x.long,
-                    (
-                      λ g lt. ((x.good g lt).kind_low, (x.good g lt).kind_high),
-                      (
-                        λ g lt. ((x.good g lt).a_below, (x.good g lt).b_below),
-                        (
-                          λ g lt. (x.good g lt).out_below,
-                          (
-                            λ g lt. (x.good g lt).one_input,
-                            (
-                              λ g lt k. ((x.good g lt).no_input k).0,
-                              (
-                                λ g lt k. ((x.good g lt).no_input k).1,
-                                (
-                                  λ g lt. ((x.good g lt).delay_low, (x.good g lt).delay_high),
-                                  (
-                                    net_driven c.in_ok-head.head.ports (take c.in_ok-head.head.gates c.in_ok-gates.gates) c.in_ok-head.head.nets (rw z at d),
-                                    (x.below, (x.rising, tt)),
-                                  ),
-                                ),
-                              ),
-                            ),
-                          ),
-                        ),
-                      ),
-                    ),
-                  ),
-                ),
-              ),
-            ),
-          ),
-        ),
-      ),
-    )
+    let z : c.in_ok-head.head.gates - 0 ≡ c.in_ok-head.head.gates = omega arith in
+    record {
+      some = x.some;
+      nets = x.nets;
+      ports = x.ports;
+      table = x.few;
+      watched = x.watched;
+      list = x.list;
+      wide = x.wide;
+      long = x.long;
+      kinds = λ g lt. ((x.good g lt).kind_low, (x.good g lt).kind_high);
+      reads = λ g lt. ((x.good g lt).a_below, (x.good g lt).b_below);
+      outs = λ g lt. (x.good g lt).out_below;
+      unary = λ g lt. (x.good g lt).one_input;
+      pulls = λ g lt k. ((x.good g lt).no_input k).0;
+      quiet = λ g lt k. ((x.good g lt).no_input k).1;
+      delays = λ g lt. ((x.good g lt).delay_low, (x.good g lt).delay_high);
+      driven = net_driven c.in_ok-head.head.ports (take c.in_ok-head.head.gates c.in_ok-gates.gates) c.in_ok-head.head.nets (rw z at d);
+      below = x.below;
+      rising = x.rising;
+    }
 
 pub returns : goal.returns
 returns c =
