@@ -1,11 +1,11 @@
 -- A trace can be read back: records with headings that are all different tell which were written.
-use Rattle.std.proofs.Common.{◌≡◌, ℕ, zero, suc, ◌+◌, ◌-◌, ◌*◌, ◌/◌, ◌%◌, ◌<◌, ◌≤◌, Bool, true, false, cond, List, [], ◌∷◌, ◌++◌, map, length, get_or, sym, refl, ap, ◌∙◌, subst, ⊎_elim, append_assoc, add-one, arith}
-use mathlib.Core.List.{append_cancel_left, head-eq_of_cons-eq, tail-eq_of_cons-eq}
+use Rattle.std.proofs.Common.{◌≡◌, ℕ, zero, suc, ◌+◌, ◌/◌, ◌%◌, ◌<◌, ◌≤◌, Bool, true, false, cond, List, [], ◌∷◌, ◌++◌, map, length, get_or, sym, refl, ap, ◌∙◌, subst, ⊎_elim, add-one, arith}
+use mathlib.Core.List.{append_cancel_left}
 use Rattle.std.specs.List.{range_with_len, flat_map, AllByRecursion as All}
 use Rattle.std.proofs.ByRecursion.{All-from_get_or, All-append, All-weaker, All-map}
 use Rattle.std.proofs.lemmas.Bool.{cases_eq, cases_lt}
 use Rattle.signal.specs.Calls.{bytes16, bytes32}
-use Rattle.signal.proofs.Rows.{joined_append, all_both}
+use Rattle.signal.proofs.Rows.{all_both}
 
 -- a tick and a net
 abbrev pub Slot : Type 0

@@ -1,10 +1,10 @@
 -- The entries that wait are exactly those that are due.
-use Rattle.std.proofs.Common.{◌≡◌, ℕ, zero, suc, ◌+◌, ◌-◌, ◌<◌, ◌≤◌, Bool, true, false, cond, not, ◌&&◌, eqb, leb, List, [], ◌∷◌, ◌++◌, length, sym, refl, ap, ◌∙◌, subst, inl, inr, arith}
+use Rattle.std.proofs.Common.{◌≡◌, ℕ, ◌+◌, ◌-◌, ◌<◌, ◌≤◌, Bool, true, false, cond, not, ◌&&◌, eqb, leb, List, [], ◌∷◌, ◌++◌, sym, refl, ap, ◌∙◌, subst, inl, inr, arith}
 use Rattle.std.specs.List.{range_with_len, flat_map, ContainsAt as Has, AllByRecursion as All}
 use Rattle.std.proofs.ByRecursion.{all-has, has_append_left, has_append_right, has_push}
 use Rattle.std.proofs.lemmas.Bool.{and_parts, and_from, leb-true, le-leb, not-true, not_from_false, eqb-false, ne_eqb}
 use Rattle.logic.specs.Logic.{Logic, Laws}
-use Rattle.netlist.specs.Board.{Board, WellFormed}
+use Rattle.netlist.specs.Board.{Board}
 use Rattle.signal.specs.Circuit.{gate, gate_count}
 use Rattle.calendar.specs.declared.entry.Entry.{Entry}
 use Rattle.signal.specs.Calls.{State, drives, entry, waiting_after}
@@ -12,7 +12,7 @@ use Rattle.signal.specs.Ordered.{Ordered}
 use Rattle.signal.specs.Waiting.{Due, WaitingExactly, Sooner, WaitingOrdered}
 use Rattle.signal.proofs.Ordering.{all_joined, ordered_joined, across}
 use Rattle.signal.proofs.Rows.{counting_all}
-use Rattle.signal.proofs.Grid.{joined_around, grid, grid_all}
+use Rattle.signal.proofs.Grid.{joined_around, grid_all}
 
 pub has_joined : {A : Type 0} (f : ℕ → List A) (a m k : ℕ) (x : A) → a ≤ k → k < a + m → Has (f k) x → Has (flat_map f (range_with_len a m)) x
 has_joined f a m k x low high h =

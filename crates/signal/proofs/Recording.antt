@@ -1,18 +1,18 @@
 -- A trace has a record of each change and of nothing else, in order; and where an advance stops.
-use Rattle.std.proofs.Common.{◌≡◌, ℕ, zero, suc, ◌+◌, ◌-◌, ◌*◌, ◌<◌, ◌≤◌, Bool, true, false, cond, eqb, ltb, ◌⊎◌, List, [], ◌∷◌, ◌++◌, length, sym, refl, ap, ◌∙◌, subst, inl, inr, ⊎_elim, arith}
+use Rattle.std.proofs.Common.{◌≡◌, ℕ, zero, suc, ◌+◌, ◌-◌, ◌*◌, ◌<◌, ◌≤◌, Bool, true, false, cond, eqb, List, [], ◌∷◌, ◌++◌, length, sym, refl, ap, ◌∙◌, subst, inl, inr, ⊎_elim, arith}
 use Rattle.std.specs.List.{range_with_len, flat_map, ContainsAt as Has, AllByRecursion as All}
 use Rattle.std.proofs.lemmas.List.{length-append}
 use Rattle.std.proofs.ByRecursion.{All-weaker, all-has, all_has_itself, has_append_left, has_append_right, has_push}
 use Rattle.std.proofs.lemmas.Bool.{eqb-false, ne_eqb, cases_lt}
 use Rattle.logic.specs.Logic.{Logic, Laws}
-use Rattle.netlist.specs.Board.{Board, WellFormed}
-use Rattle.signal.specs.Calls.{State, Change, change_bytes, level, level_before, change, changes_at, completes, tick_room, most_ticks}
-use Rattle.signal.specs.Laws.{Life, reached, trace, net}
+use Rattle.netlist.specs.Board.{Board}
+use Rattle.signal.specs.Calls.{State, Change, level, level_before, change, changes_at, completes, tick_room}
+use Rattle.signal.specs.Laws.{Life, reached}
 use Rattle.signal.specs.Ordered.{Ordered}
-use Rattle.signal.specs.Traces.{Earlier, Recorded, TraceOf, TracesExact, used, Stops, AdvancesStop, TracesTold}
+use Rattle.signal.specs.Traces.{Earlier, Recorded, TracesExact, Stops, TracesTold}
 use Rattle.signal.proofs.Rows.{counting_all}
 use Rattle.signal.proofs.Ordering.{all_joined, ordered_joined, across}
-use Rattle.signal.proofs.Lives.{Whole, whole, wrote_life}
+use Rattle.signal.proofs.Lives.{whole, wrote_life}
 use Rattle.signal.proofs.Advancing.{length_bytes, tick_fits, completes_stop, completes_go}
 use Rattle.signal.proofs.Decoding.{Up, up_from, rising_all}
 use Rattle.signal.proofs.Exactly.{has_joined}

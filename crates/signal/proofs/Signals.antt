@@ -1,12 +1,11 @@
 -- The defining equations of D and N.
-use Rattle.std.proofs.Common.{◌≡◌, ℕ, zero, suc, ◌-◌, ◌<◌, ◌≤◌, Bool, true, false, cond, eqb, ltb, List, [], ◌∷◌, ◌++◌, sym, refl, ap, ◌∙◌, ⊎_elim, arith}
-use mathlib.Core.Path.{fun_ext}
+use Rattle.std.proofs.Common.{◌≡◌, ℕ, zero, suc, ◌-◌, ◌<◌, ◌≤◌, cond, eqb, ltb, List, [], ◌∷◌, ◌++◌, sym, refl, ap, ◌∙◌, ⊎_elim, arith}
 use Rattle.std.specs.List.{range_with_len, flat_map, AllByRecursion as All}
 use Rattle.std.proofs.lemmas.Bool.{eq-eqb, ne_eqb, cases_eq, lt-ltb, le-ltb, cases_lt}
 use Rattle.logic.specs.Logic.{Logic}
 use Rattle.netlist.specs.Board.{Board}
 use Rattle.signal.specs.Circuit.{gate, gate_count, operate}
-use Rattle.signal.specs.Signal.{Levels, resolved, driven, from_port, drivers, carried, before, N, D, Signals, Defined, SignalDefinition}
+use Rattle.signal.specs.Signal.{Levels, resolved, driven, from_port, carried, before, N, D, Signals, SignalDefinition}
 use Rattle.signal.proofs.Rows.{joined_each, counting_all}
 
 module _ {V : Type 0} (L : Logic V) (C : Board) (S : ℕ → V) (P : ℕ → ℕ → V) where

@@ -1,14 +1,14 @@
 -- Equal traces are equal levels of the watched nets.
-use Rattle.std.proofs.Common.{◌≡◌, ℕ, zero, suc, ◌+◌, ◌-◌, ◌*◌, ◌/◌, ◌%◌, ◌<◌, ◌≤◌, Bool, true, false, cond, eqb, List, [], ◌∷◌, ◌++◌, map, length, get_or, sym, refl, ap, ◌∙◌, subst, append_assoc, arith}
+use Rattle.std.proofs.Common.{◌≡◌, ℕ, zero, suc, ◌/◌, ◌%◌, ◌<◌, Bool, true, false, cond, eqb, List, [], ◌∷◌, map, sym, refl, ap, ◌∙◌, arith}
 use Rattle.std.specs.List.{range_with_len, flat_map, AllByRecursion as All}
 use Rattle.std.proofs.ByRecursion.{All-from_get_or}
 use Rattle.std.proofs.lemmas.Bool.{eqb-true}
 use Rattle.logic.specs.Logic.{Logic, Laws}
 use Rattle.netlist.specs.Board.{Board, WellFormed}
-use Rattle.signal.specs.Calls.{State, Change, bytes16, bytes32, change_bytes, level, level_before, change, changes_at, most_ticks}
+use Rattle.signal.specs.Calls.{State, bytes16, change_bytes, level, level_before, change, changes_at}
 use Rattle.signal.proofs.Rows.{joined_each, joined_joined, joined_map, counting_all, all_each, all_both}
 use Rattle.signal.proofs.Lives.{Whole, recorded}
-use Rattle.signal.proofs.Decoding.{Slot, heading, out, slots, decode, up_from, rising_all, slots_apart, at_tick}
+use Rattle.signal.proofs.Decoding.{Slot, out, slots, decode, up_from, rising_all, slots_apart, at_tick}
 
 module _ {V : Type 0} {L : Logic V} (laws : Laws L) where
   -- what a slot adds to the trace of a run

@@ -3,8 +3,8 @@
 -- A make of runs has a type R, and `has C s x` says that the run x, opened on the board C, has come to the state s.
 use Rattle.std.specs.Prelude.{◌≡◌, ℕ, ◌+◌, ◌<◌, Bool, true, ◌↔◌, List, [], ◌∷◌, ◌++◌, ◌≢◌}
 use Rattle.std.specs.List.{flat_map, AllByRecursion as All}
-use Rattle.logic.specs.Logic.{Logic, Laws, RefinedBy}
-use Rattle.netlist.specs.Board.{Board, WellFormed}
+use Rattle.logic.specs.Logic.{Logic, RefinedBy}
+use Rattle.netlist.specs.Board.{Board}
 use Rattle.signal.specs.Calls.{State, Call, Answer, refused, read, opened, after, answer, replies, wrote}
 use Rattle.signal.specs.Laws.{Life, reached, net, Learns, Alike}
 

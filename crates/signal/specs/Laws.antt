@@ -2,7 +2,7 @@
 use Rattle.std.specs.Prelude.{◌≡◌, ℕ, ◌+◌, ◌<◌, ◌≤◌, Bool, true, ◌↔◌, List, None}
 use Rattle.std.specs.List.{flat_map, AllByRecursion as All}
 use Rattle.std.specs.List.Sorted.{IsPermutation}
-use Rattle.logic.specs.Logic.{Logic, Laws, RefinedBy}
+use Rattle.logic.specs.Logic.{Logic, RefinedBy}
 use Rattle.netlist.specs.Board.{Board, WellFormed}
 use Rattle.signal.specs.Circuit.{gate, gate_count}
 use Rattle.signal.specs.Signal.{started}
