@@ -49,6 +49,7 @@ fn report_all<F: Family>(
 }
 
 // Writes the record of a net whose level differs.
+#[tactic(auto, using(crate::proofs::Over::wrote_none))]
 fn report_net<F: Family>(
     old: F::Value,
     new: F::Value,
