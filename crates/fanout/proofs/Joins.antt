@@ -8,7 +8,7 @@ use Rattle.number_set.specs.Members.{member}
 use Rattle.signal.specs.Circuit.{gate, gate_count}
 use Rattle.signal.specs.Signal.{resolved}
 use Rattle.signal.proofs.Rows.{joined_each, counting_all}
-use Rattle.tick.specs.Plans.{result}
+use Rattle.tick.specs.Plans.{result_at}
 use Rattle.tick.specs.Settled.{by_port, by_gate, drivers_of}
 use Rattle.fanout.specs.Seek.{out_of, Idle}
 
@@ -40,6 +40,6 @@ module _ {V : Type 0} (L : Logic V) (C : Board) where
 
   -- a gate whose inputs did not change has planned what it gives, if it had before
   pub all_idle : (levels₀ levels₁ planned : List V) (gates : List ℕ) →
-      ((g : ℕ) → g < gate_count C → get_or planned g L.unset ≡ result L C levels₀ g) →
-      ((g : ℕ) → g < gate_count C → member gates g ≡ false → result L C levels₁ g ≡ result L C levels₀ g) → Idle L C levels₁ planned gates
+      ((g : ℕ) → g < gate_count C → get_or planned g L.unset ≡ result_at L C levels₀ g) →
+      ((g : ℕ) → g < gate_count C → member gates g ≡ false → result_at L C levels₁ g ≡ result_at L C levels₀ g) → Idle L C levels₁ planned gates
   all_idle levels₀ levels₁ planned gates had same g lt off = had g lt ∙ sym (same g lt off)

@@ -5,7 +5,7 @@ use Rattle.logic.specs.Logic.{Logic}
 use Rattle.netlist.specs.Board.{Board}
 use Rattle.number_set.specs.Members.{member}
 use Rattle.signal.specs.Circuit.{gate, operate}
-use Rattle.tick.specs.Plans.{result}
+use Rattle.tick.specs.Plans.{result_at}
 use Rattle.fanout.specs.declared.pin.Pin.TheVariants.{First, Second}
 use Rattle.fanout.specs.Seek.{seek, key_of}
 use Rattle.fanout.proofs.Chains.{stop, stop_at, stop_end, chain_inside, chain_none}
@@ -27,7 +27,7 @@ operate_same L (suc (suc (suc (suc (suc (suc (suc (suc (suc (suc (suc zero))))))
 operate_same L (suc (suc (suc (suc (suc (suc (suc (suc (suc (suc (suc (suc k)))))))))))) a a' b b' f g = refl
 
 -- a gate that meets the net at neither input gives what it gave
-pub reads_other : {V : Type 0} (L : Logic V) (C : Board) (levels : List V) (n : ℕ) (v : V) (g : ℕ) → (key_of C First g ≡ n → ⊥) → (key_of C Second g ≡ n → ⊥) → result L C (set levels n v) g ≡ result L C levels g
+pub reads_other : {V : Type 0} (L : Logic V) (C : Board) (levels : List V) (n : ℕ) (v : V) (g : ℕ) → (key_of C First g ≡ n → ⊥) → (key_of C Second g ≡ n → ⊥) → result_at L C (set levels n v) g ≡ result_at L C levels g
 reads_other L C levels n v g first second =
     let x = gate C g in
     operate_same L x.kind (get_or (set levels n v) x.a L.unset) (get_or levels x.a L.unset) (get_or (set levels n v) x.b L.unset) (get_or levels x.b L.unset)

@@ -5,7 +5,7 @@ use Rattle.logic.specs.Logic.{Logic}
 use Rattle.netlist.specs.Board.{Board}
 use Rattle.number_set.specs.Members.{member, Least}
 use Rattle.signal.specs.Signal.{resolved}
-use Rattle.tick.specs.Plans.{result}
+use Rattle.tick.specs.Plans.{result_at}
 use Rattle.tick.specs.Settled.{drivers_of}
 use Rattle.fanout.proofs.Sweeps.{Swept, swept_none, swept_member, swept_more, swept_all}
 
@@ -19,7 +19,7 @@ module _ {V : Type 0} (L : Logic V) (C : Board) (ports drives was : List V) (mar
     pub swept : Swept marks from words
     pub resolves : (n : ℕ) → n < 1024 → member marks n ≡ true → n < from → get_or levels n L.unset ≡ level n
     pub others : (n : ℕ) → n < 1024 → member marks n ≡ false → get_or levels n L.unset ≡ get_or was n L.unset
-    pub readers : (g : ℕ) → g < count → member gates g ≡ false → result L C levels g ≡ result L C was g
+    pub readers : (g : ℕ) → g < count → member gates g ≡ false → result_at L C levels g ≡ result_at L C was g
 
   pub settles_none : (gates : List ℕ) → Settles 0 marks was gates
   settles_none gates = record {
@@ -34,7 +34,7 @@ module _ {V : Type 0} (L : Logic V) (C : Board) (ports drives was : List V) (mar
     pub settles_more : length levels ≡ 1024 → (n : ℕ) (first : Least words (Some n)) (words' : List ℕ) → ((m : ℕ) → m < 1024 → member words' m ≡ cond (eqb m n) false (member words m)) →
         (levels' : List V) (gates' : List ℕ) → levels' ≡ set levels n (level n) →
         ((g : ℕ) → g < count → member gates' g ≡ false → member gates g ≡ false) →
-        ((g : ℕ) → g < count → member gates' g ≡ false → result L C levels' g ≡ result L C levels g) → Settles (n + 1) words' levels' gates'
+        ((g : ℕ) → g < count → member gates' g ≡ false → result_at L C levels' g ≡ result_at L C levels g) → Settles (n + 1) words' levels' gates'
     settles_more wide n first words' sets levels' gates' e kept reads = record {
       long = ap length e ∙ length-set levels n (level n) ∙ s.long;
       swept = swept_more marks from words s.swept n first words' sets;

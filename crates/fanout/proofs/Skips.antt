@@ -6,7 +6,7 @@ use Rattle.logic.specs.Logic.{Logic}
 use Rattle.netlist.specs.Board.{Board}
 use Rattle.number_set.specs.Members.{member, Least}
 use Rattle.signal.specs.Circuit.{gate, gate_count}
-use Rattle.tick.specs.Plans.{result, plans, put_changed}
+use Rattle.tick.specs.Plans.{result_at, plans, put_changed}
 use Rattle.fanout.specs.Seek.{Idle}
 use Rattle.fanout.proofs.Sweeps.{Swept, swept_none, swept_from, swept_more}
 
@@ -24,18 +24,18 @@ module _ {V : Type 0} (L : Logic V) (C : Board) (levels was : List V) (t : ℕ) 
   abbrev upto : ℕ → Agenda
   upto i = plans L C levels was t i a
 
-  skip : (i m : ℕ) → ((h : ℕ) → i ≤ h → h < i + m → get_or was h L.unset ≡ result L C levels h) → upto (i + m) ≡ upto i
+  skip : (i m : ℕ) → ((h : ℕ) → i ≤ h → h < i + m → get_or was h L.unset ≡ result_at L C levels h) → upto (i + m) ≡ upto i
   skip i zero f = ap upto (add-zero i)
   skip i (suc m) f =
       ap upto (assoc i m)
-      ∙ ap (λ b. cond b (upto (i + m)) (put_after (upto (i + m)) (entry (t + (gate C (i + m)).delay) (i + m) (L.code (result L C levels (i + m))))))
-      (eq-eqb (L.code (result L C levels (i + m))) (L.code (get_or was (i + m) L.unset)) (ap L.code (sym (f (i + m) (omega arith) (omega arith)))))
+      ∙ ap (λ b. cond b (upto (i + m)) (put_after (upto (i + m)) (entry (t + (gate C (i + m)).delay) (i + m) (L.code (result_at L C levels (i + m))))))
+      (eq-eqb (L.code (result_at L C levels (i + m))) (L.code (get_or was (i + m) L.unset)) (ap L.code (sym (f (i + m) (omega arith) (omega arith)))))
       ∙ skip i m (λ h p q. f h p (omega arith))
     where
       assoc : (i m : ℕ) → i + suc m ≡ suc (i + m)
       assoc i m = omega arith
 
-  skip_to : (i p : ℕ) → i ≤ p → ((h : ℕ) → i ≤ h → h < p → get_or was h L.unset ≡ result L C levels h) → upto p ≡ upto i
+  skip_to : (i p : ℕ) → i ≤ p → ((h : ℕ) → i ≤ h → h < p → get_or was h L.unset ≡ result_at L C levels h) → upto p ≡ upto i
   skip_to i p le f = ap upto (sym (back i p le)) ∙ skip i (p - i) (λ h x y. f h x (omega arith))
     where
       back : (i p : ℕ) → i ≤ p → i + (p - i) ≡ p
@@ -46,7 +46,7 @@ module _ {V : Type 0} (L : Logic V) (C : Board) (levels was : List V) (t : ℕ) 
     pub long : length planned ≡ length was
     pub swept : Swept marks from words
     pub rest : (h : ℕ) → from ≤ h → get_or planned h L.unset ≡ get_or was h L.unset
-    pub results : Idle L C levels was marks → (h : ℕ) → h < from → h < gate_count C → get_or planned h L.unset ≡ result L C levels h
+    pub results : Idle L C levels was marks → (h : ℕ) → h < from → h < gate_count C → get_or planned h L.unset ≡ result_at L C levels h
     pub agenda : Idle L C levels was marks → b ≡ upto (least from (gate_count C))
 
   pub done_none : (marks : List ℕ) → Done marks 0 marks was a
@@ -64,7 +64,7 @@ module _ {V : Type 0} (L : Logic V) (C : Board) (levels was : List V) (t : ℕ) 
 
   module _ (marks : List ℕ) (from : ℕ) (words : List ℕ) (planned : List V) (b : Agenda) (fits : gate_count C ≤ 1024) (d : Done marks from words planned b) where
     -- none of the gates from `from` to p stands in the set
-    still : Idle L C levels was marks → (p : ℕ) → p ≤ gate_count C → ((h : ℕ) → h < p → member words h ≡ false) → (h : ℕ) → from ≤ h → h < p → get_or was h L.unset ≡ result L C levels h
+    still : Idle L C levels was marks → (p : ℕ) → p ≤ gate_count C → ((h : ℕ) → h < p → member words h ≡ false) → (h : ℕ) → from ≤ h → h < p → get_or was h L.unset ≡ result_at L C levels h
     still idle p le none h x y = idle h (omega arith) (sym (d.swept.ahead h (omega arith) x) ∙ none h y)
 
     reach : Idle L C levels was marks → (p : ℕ) → p ≤ gate_count C → from ≤ p → ((h : ℕ) → h < p → member words h ≡ false) → upto p ≡ b
@@ -75,7 +75,7 @@ module _ {V : Type 0} (L : Logic V) (C : Board) (levels was : List V) (t : ℕ) 
         same : (p f c : ℕ) → p ≤ c → f ≤ p → c ≤ f → c ≡ f
         same p f c u v w = omega arith
 
-    pub done_all : Least words None → Idle L C levels was marks → (b ≡ upto (gate_count C)) × ((h : ℕ) → h < gate_count C → get_or planned h L.unset ≡ result L C levels h)
+    pub done_all : Least words None → Idle L C levels was marks → (b ≡ upto (gate_count C)) × ((h : ℕ) → h < gate_count C → get_or planned h L.unset ≡ result_at L C levels h)
     done_all none idle = (
       ⊎_elim
           (λ lt. sym (reach idle (gate_count C) (omega arith) (omega arith) (λ h k. none h (omega arith))))
@@ -107,16 +107,16 @@ module _ {V : Type 0} (L : Logic V) (C : Board) (levels was : List V) (t : ℕ) 
             ∙ sym (ap upto (least_high (g + 1) (gate_count C) (omega arith)));
       }
 
-      pub done_more : g < gate_count C → length planned ≡ 1024 → (planned' : List V) (b' : Agenda) → planned' ≡ set planned g (result L C levels g) →
-          b' ≡ put_changed L (gate C g).delay g t (result L C levels g) (get_or planned g L.unset) b → Done marks (g + 1) words' planned' b'
+      pub done_more : g < gate_count C → length planned ≡ 1024 → (planned' : List V) (b' : Agenda) → planned' ≡ set planned g (result_at L C levels g) →
+          b' ≡ put_changed L (gate C g).delay g t (result_at L C levels g) (get_or planned g L.unset) b → Done marks (g + 1) words' planned' b'
       done_more lt wide planned' b' p q =
-          let R = result L C levels g in
+          let R = result_at L C levels g in
           record {
             long = ap length p ∙ length-set planned g R ∙ d.long;
             swept = swept_more marks from words d.swept g first words' sets;
             rest = λ h le. ap (λ l. get_or l h L.unset) p ∙ get_or-set_other planned g h R L.unset (λ e. omega arith) ∙ d.rest h (omega (arith, ahead_of));
             results = λ idle h low k. ap (λ l. get_or l h L.unset) p ∙ ⊎_elim
-                (λ e. ap (λ z. get_or (set planned g R) z L.unset) e ∙ get_or-set_same planned g R L.unset (omega (arith, first.0)) ∙ ap (result L C levels) (sym e))
+                (λ e. ap (λ z. get_or (set planned g R) z L.unset) e ∙ get_or-set_same planned g R L.unset (omega (arith, first.0)) ∙ ap (result_at L C levels) (sym e))
                 (λ ne. get_or-set_other planned g h R L.unset ne ∙ ⊎_elim
                 (λ u. d.results idle h u k)
                 (λ v. d.rest h v ∙ still idle g (omega arith) first.2 h v (omega arith))

@@ -5,7 +5,7 @@ use Rattle.logic.specs.Logic.{Logic}
 use Rattle.netlist.specs.Board.{Board}
 use Rattle.number_set.specs.Members.{member}
 use Rattle.signal.specs.Circuit.{gate, gate_count}
-use Rattle.tick.specs.Plans.{result}
+use Rattle.tick.specs.Plans.{result_at}
 use Rattle.fanout.specs.declared.pin.Pin.{Pin}
 use Rattle.fanout.specs.declared.pin.Pin.TheVariants.{Output, First, Second}
 
@@ -36,4 +36,4 @@ Nexts key count next = (g : ℕ) → g < count → slice_index next g ≡ seek k
 
 -- every gate that does not stand in the set has planned what it gives on the levels
 abbrev pub Idle : {V : Type 0} → Logic V → Board → List V → List V → List ℕ → Type 0
-Idle L C levels planned words = (g : ℕ) → g < gate_count C → member words g ≡ false → slice_index_or planned g L.unset ≡ result L C levels g
+Idle L C levels planned words = (g : ℕ) → g < gate_count C → member words g ≡ false → slice_index_or planned g L.unset ≡ result_at L C levels g

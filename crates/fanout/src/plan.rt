@@ -2,7 +2,7 @@ ghost use Rattle.std.specs.Prelude.{◌≡◌, ℕ, ◌<◌, ◌≤◌, false, l
 ghost use Rattle.netlist.specs.Looked.{contents};
 ghost use Rattle.number_set.specs.Members.{member};
 ghost use Rattle.signal.specs.Circuit.{gate};
-ghost use Rattle.tick.specs.Plans.{result, plans, put_changed};
+ghost use Rattle.tick.specs.Plans.{result_at, plans, put_changed};
 ghost use Rattle.fanout.specs.Seek.{Idle};
 
 use crate::level::level;
@@ -23,9 +23,9 @@ pub(crate) fn plan_marked<F: Family, C: Calendar>(
     moment: Moment,
     gates: &mut NumberSet,
 )
-    ensures* long { λ _. ⌜ length planned.new ≡ length planned.old ⌝ }
-    ensures* planned { λ _. ⌜ (Idle F.Family.logic (contents wiring.now.net) levels.now planned.old gates.old.words → (g : ℕ) → g < wiring.now.net.head.gates → slice_index_or planned.new g F.Family.logic.unset ≡ result F.Family.logic (contents wiring.now.net) levels.now g) ⌝ }
-    ensures* calendar { λ _. ⌜ (Idle F.Family.logic (contents wiring.now.net) levels.now planned.old gates.old.words → C.Calendar.meaning calendar.new ≡ plans F.Family.logic (contents wiring.now.net) levels.now planned.old moment.tick wiring.now.net.head.gates (C.Calendar.meaning calendar.old)) ⌝ }
+    ensures long { length planned.new ≡ length planned.old }
+    ensures planned { Idle F.Family.logic (contents wiring.now.net) levels.now planned.old gates.old.words → (g : ℕ) → g < wiring.now.net.head.gates → slice_index_or planned.new g F.Family.logic.unset ≡ result_at F.Family.logic (contents wiring.now.net) levels.now g }
+    ensures calendar { Idle F.Family.logic (contents wiring.now.net) levels.now planned.old gates.old.words → C.Calendar.meaning calendar.new ≡ plans F.Family.logic (contents wiring.now.net) levels.now planned.old moment.tick wiring.now.net.head.gates (C.Calendar.meaning calendar.old) }
 {
     // All below have planned.
     let mut from = 0;
@@ -45,10 +45,11 @@ fn plan_gate<F: Family, C: Calendar>(
     levels: &[F::Value; 1024],
     moment: Moment,
 )
-    ensures* long { λ _. ⌜ (g < wiring.now.net.head.gates → length planned.old ≡ 1024) ⌝ }
-    ensures* planned { λ _. ⌜ (g < wiring.now.net.head.gates → planned.new ≡ slice_set planned.old g (result F.Family.logic (contents wiring.now.net) levels.now g)) ⌝ }
-    ensures* calendar { λ _. ⌜ (g < wiring.now.net.head.gates → C.Calendar.meaning calendar.new ≡ put_changed F.Family.logic (gate (contents wiring.now.net) g).delay g moment.tick (result F.Family.logic (contents wiring.now.net) levels.now g) (slice_index_or planned.old g F.Family.logic.unset) (C.Calendar.meaning calendar.old)) ⌝ }
-    ensures* past { λ _. ⌜ (wiring.now.net.head.gates ≤ g → planned.new ≡ planned.old) ⌝ ∗ ⌜ (wiring.now.net.head.gates ≤ g → C.Calendar.meaning calendar.new ≡ C.Calendar.meaning calendar.old) ⌝ }
+    ensures long { g < wiring.now.net.head.gates → length planned.old ≡ 1024 }
+    ensures planned { g < wiring.now.net.head.gates → planned.new ≡ slice_set planned.old g (result_at F.Family.logic (contents wiring.now.net) levels.now g) }
+    ensures calendar { g < wiring.now.net.head.gates → C.Calendar.meaning calendar.new ≡ put_changed F.Family.logic (gate (contents wiring.now.net) g).delay g moment.tick (result_at F.Family.logic (contents wiring.now.net) levels.now g) (slice_index_or planned.old g F.Family.logic.unset) (C.Calendar.meaning calendar.old) }
+    ensures past { wiring.now.net.head.gates ≤ g → planned.new ≡ planned.old }
+    ensures still { wiring.now.net.head.gates ≤ g → C.Calendar.meaning calendar.new ≡ C.Calendar.meaning calendar.old }
 {
     if g >= wiring.net.head.gates {
         return;
@@ -71,7 +72,7 @@ fn put_changed<F: Family, C: Calendar>(
     was: F::Value,
 )
     requires { delay ≤ 64 }
-    ensures* { λ _. ⌜ C.Calendar.meaning calendar.new ≡ put_changed F.Family.logic delay g moment.tick v was (C.Calendar.meaning calendar.old) ⌝ }
+    ensures { C.Calendar.meaning calendar.new ≡ put_changed F.Family.logic delay g moment.tick v was (C.Calendar.meaning calendar.old) }
 {
     let code = F::code(v);
     if code == F::code(was) {

@@ -2,7 +2,7 @@ ghost use Rattle.std.specs.Prelude.{◌≡◌, ℕ, ◌<◌, true, false, length
 ghost use Rattle.netlist.specs.Looked.{contents};
 ghost use Rattle.number_set.specs.Members.{member};
 ghost use Rattle.signal.specs.Signal.{resolved};
-ghost use Rattle.tick.specs.Plans.{result};
+ghost use Rattle.tick.specs.Plans.{result_at};
 ghost use Rattle.tick.specs.Settled.{drivers_of};
 ghost use Rattle.fanout.specs.Seek.{key_of};
 
@@ -22,11 +22,11 @@ pub(crate) fn settle_touched<F: Family>(
     levels: &mut [F::Value; 1024],
     gates: &mut NumberSet,
 )
-    ensures* long { λ _. ⌜ length levels.new ≡ length levels.old ⌝ }
-    ensures* resolves { λ _. ⌜ ((n : ℕ) → n < 1024 → member nets.old.words n ≡ true → slice_index_or levels.new n F.Family.logic.unset ≡ resolved F.Family.logic (drivers_of F.Family.logic (contents wiring.now.net) ports.now drives.now n)) ⌝ }
-    ensures* others { λ _. ⌜ ((n : ℕ) → n < 1024 → member nets.old.words n ≡ false → slice_index_or levels.new n F.Family.logic.unset ≡ slice_index_or levels.old n F.Family.logic.unset) ⌝ }
-    ensures* empties { λ _. ⌜ ((n : ℕ) → n < 1024 → member nets.new.words n ≡ false) ⌝ }
-    ensures* readers { λ _. ⌜ ((g : ℕ) → g < wiring.now.net.head.gates → member gates.new.words g ≡ false → result F.Family.logic (contents wiring.now.net) levels.new g ≡ result F.Family.logic (contents wiring.now.net) levels.old g) ⌝ }
+    ensures long { length levels.new ≡ length levels.old }
+    ensures resolves { (n : ℕ) → n < 1024 → member nets.old.words n ≡ true → slice_index_or levels.new n F.Family.logic.unset ≡ resolved F.Family.logic (drivers_of F.Family.logic (contents wiring.now.net) ports.now drives.now n) }
+    ensures others { (n : ℕ) → n < 1024 → member nets.old.words n ≡ false → slice_index_or levels.new n F.Family.logic.unset ≡ slice_index_or levels.old n F.Family.logic.unset }
+    ensures empties { (n : ℕ) → n < 1024 → member nets.new.words n ≡ false }
+    ensures readers { (g : ℕ) → g < wiring.now.net.head.gates → member gates.new.words g ≡ false → result_at F.Family.logic (contents wiring.now.net) levels.new g ≡ result_at F.Family.logic (contents wiring.now.net) levels.old g }
 {
     // All below are settled.
     let mut from = 0;
@@ -47,10 +47,10 @@ fn settle_net<F: Family>(
     gates: &mut NumberSet,
 )
     requires { n < 1024 }
-    ensures* long { λ _. ⌜ length levels.old ≡ 1024 ⌝ }
-    ensures* levels { λ _. ⌜ levels.new ≡ slice_set levels.old n (resolved F.Family.logic (drivers_of F.Family.logic (contents wiring.now.net) ports.now drives.now n)) ⌝ }
-    ensures* kept { λ _. ⌜ ((g : ℕ) → g < wiring.now.net.head.gates → member gates.new.words g ≡ false → member gates.old.words g ≡ false) ⌝ }
-    ensures* readers { λ _. ⌜ ((g : ℕ) → g < wiring.now.net.head.gates → member gates.new.words g ≡ false → result F.Family.logic (contents wiring.now.net) levels.new g ≡ result F.Family.logic (contents wiring.now.net) levels.old g) ⌝ }
+    ensures long { length levels.old ≡ 1024 }
+    ensures levels { levels.new ≡ slice_set levels.old n (resolved F.Family.logic (drivers_of F.Family.logic (contents wiring.now.net) ports.now drives.now n)) }
+    ensures kept { (g : ℕ) → g < wiring.now.net.head.gates → member gates.new.words g ≡ false → member gates.old.words g ≡ false }
+    ensures readers { (g : ℕ) → g < wiring.now.net.head.gates → member gates.new.words g ≡ false → result_at F.Family.logic (contents wiring.now.net) levels.new g ≡ result_at F.Family.logic (contents wiring.now.net) levels.old g }
 {
     let v = resolve_net::<F>(wiring, ports, drives, n);
     let fresh = F::code(v);
@@ -72,7 +72,7 @@ fn resolve_net<F: Family>(
     n: u16,
 ) -> F::Value
     requires { n < 1024 }
-    ensures* { λ r. ⌜ r ≡ resolved F.Family.logic (drivers_of F.Family.logic (contents wiring.now.net) ports.now drives.now n) ⌝ }
+    ensures { result ≡ resolved F.Family.logic (drivers_of F.Family.logic (contents wiring.now.net) ports.now drives.now n) }
 {
     let mut some = n < wiring.net.head.ports;
     let mut v = start::<F>(some, ports[n as usize]);
@@ -87,7 +87,7 @@ fn resolve_net<F: Family>(
 
 // The port's value where there is one.
 fn start<F: Family>(port: bool, v: F::Value) -> F::Value
-    ensures* { λ r. ⌜ r ≡ (if port then v else F.Family.logic.unset) ⌝ }
+    ensures { result ≡ (if port then v else F.Family.logic.unset) }
 {
     if port {
         return v;
@@ -97,7 +97,7 @@ fn start<F: Family>(port: bool, v: F::Value) -> F::Value
 
 // One driver more.
 fn together<F: Family>(some: bool, was: F::Value, v: F::Value) -> F::Value
-    ensures* { λ r. ⌜ r ≡ (if some then F.Family.logic.resolve was v else v) ⌝ }
+    ensures { result ≡ (if some then F.Family.logic.resolve was v else v) }
 {
     if some {
         return F::resolve(was, v);
@@ -108,8 +108,8 @@ fn together<F: Family>(some: bool, was: F::Value, v: F::Value) -> F::Value
 // Adds the gates that meet a net at the pin.
 fn mark_readers(wiring: &Wiring, pin: Pin, n: u16, gates: &mut NumberSet)
     requires { n < 1024 }
-    ensures* kept { λ _. ⌜ ((g : ℕ) → g < 1024 → member gates.old.words g ≡ true → member gates.new.words g ≡ true) ⌝ }
-    ensures* readers { λ _. ⌜ ((g : ℕ) → g < wiring.now.net.head.gates → key_of (contents wiring.now.net) pin g ≡ n → member gates.new.words g ≡ true) ⌝ }
+    ensures kept { (g : ℕ) → g < 1024 → member gates.old.words g ≡ true → member gates.new.words g ≡ true }
+    ensures readers { (g : ℕ) → g < wiring.now.net.head.gates → key_of (contents wiring.now.net) pin g ≡ n → member gates.new.words g ≡ true }
 {
     let mut g = wiring.head(pin, n);
     while g < 1024 {

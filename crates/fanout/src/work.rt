@@ -4,7 +4,7 @@ ghost use Rattle.fanout.specs.Steady.{Steady};
 ghost use Rattle.netlist.specs.Looked.{contents};
 ghost use Rattle.signal.specs.Signal.{resolved};
 ghost use Rattle.tick.specs.Due.{applied, left_over};
-ghost use Rattle.tick.specs.Plans.{result, plans};
+ghost use Rattle.tick.specs.Plans.{result_at, plans};
 ghost use Rattle.tick.specs.Settled.{drivers_of};
 
 use crate::due::take_touched;
@@ -29,12 +29,12 @@ pub fn work_changed<F: Family, C: Calendar>(
     planned: &mut [F::Value; 1024],
     moment: Moment,
 )
-    ensures* drives { λ _. ⌜ drives.new ≡ applied F.Family.logic moment.tick drives.old (C.Calendar.meaning calendar.old).waiting ⌝ }
-    ensures* long { λ _. ⌜ length levels.new ≡ length levels.old ⌝ }
-    ensures* wide { λ _. ⌜ length planned.new ≡ length planned.old ⌝ }
-    ensures* levels { λ _. ⌜ (Steady F.Family.logic (contents wiring.now.net) ports.now drives.old levels.old planned.old → (n : ℕ) → n < 1024 → slice_index_or levels.new n F.Family.logic.unset ≡ resolved F.Family.logic (drivers_of F.Family.logic (contents wiring.now.net) ports.now drives.new n)) ⌝ }
-    ensures* planned { λ _. ⌜ (Steady F.Family.logic (contents wiring.now.net) ports.now drives.old levels.old planned.old → (g : ℕ) → g < wiring.now.net.head.gates → slice_index_or planned.new g F.Family.logic.unset ≡ result F.Family.logic (contents wiring.now.net) levels.new g) ⌝ }
-    ensures* calendar { λ _. ⌜ (Steady F.Family.logic (contents wiring.now.net) ports.now drives.old levels.old planned.old → C.Calendar.meaning calendar.new ≡ plans F.Family.logic (contents wiring.now.net) levels.new planned.old moment.tick wiring.now.net.head.gates (with_waiting (C.Calendar.meaning calendar.old) (left_over moment.tick (C.Calendar.meaning calendar.old).waiting))) ⌝ }
+    ensures drives { drives.new ≡ applied F.Family.logic moment.tick drives.old (C.Calendar.meaning calendar.old).waiting }
+    ensures long { length levels.new ≡ length levels.old }
+    ensures wide { length planned.new ≡ length planned.old }
+    ensures levels { Steady F.Family.logic (contents wiring.now.net) ports.now drives.old levels.old planned.old → (n : ℕ) → n < 1024 → slice_index_or levels.new n F.Family.logic.unset ≡ resolved F.Family.logic (drivers_of F.Family.logic (contents wiring.now.net) ports.now drives.new n) }
+    ensures planned { Steady F.Family.logic (contents wiring.now.net) ports.now drives.old levels.old planned.old → (g : ℕ) → g < wiring.now.net.head.gates → slice_index_or planned.new g F.Family.logic.unset ≡ result_at F.Family.logic (contents wiring.now.net) levels.new g }
+    ensures calendar { Steady F.Family.logic (contents wiring.now.net) ports.now drives.old levels.old planned.old → C.Calendar.meaning calendar.new ≡ plans F.Family.logic (contents wiring.now.net) levels.new planned.old moment.tick wiring.now.net.head.gates (with_waiting (C.Calendar.meaning calendar.old) (left_over moment.tick (C.Calendar.meaning calendar.old).waiting)) }
 {
     let mut nets = NumberSet::new();
     take_touched::<F, C>(calendar, moment.tick, drives, wiring, &mut nets);

@@ -16,10 +16,10 @@ module _ {V : Type 0} (L : Logic V) where
   put_changed d g t v was a = cond (L.code v == L.code was) a (put_after a (entry (t + d) g (L.code v)))
 
   module _ (C : Board) (levels : List V) where
-    abbrev pub result : ℕ → V
-    result g = result_of (gate C g) levels
+    abbrev pub result_at : ℕ → V
+    result_at g = result_of (gate C g) levels
 
     -- the gates below i, in file order
     abbrev pub plans : List V → ℕ → ℕ → Agenda → Agenda
     plans was t zero a = a
-    plans was t (suc i) a = put_changed (gate C i).delay i t (result i) (slice_index_or was i L.unset) (plans was t i a)
+    plans was t (suc i) a = put_changed (gate C i).delay i t (result_at i) (slice_index_or was i L.unset) (plans was t i a)

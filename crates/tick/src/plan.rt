@@ -1,7 +1,7 @@
 ghost use Rattle.std.specs.Prelude.{◌≡◌, ℕ, ◌<◌, ◌≤◌, length, slice_index_or, slice_set};
 ghost use Rattle.signal.specs.Circuit.{operate};
 ghost use Rattle.netlist.specs.Looked.{contents};
-ghost use Rattle.tick.specs.Plans.{result, result_of, plans, put_changed};
+ghost use Rattle.tick.specs.Plans.{result_of, result_at, plans, put_changed};
 
 use crate::moment::Moment;
 use calendar::calendar::Calendar;
@@ -17,10 +17,10 @@ pub fn plan<F: Family, C: Calendar>(
     levels: &[F::Value; 1024],
     moment: Moment,
 )
-    ensures* long { λ _. ⌜ length planned.new ≡ length planned.old ⌝ }
-    ensures* planned { λ _. ⌜ ((g : ℕ) → g < net.now.head.gates → slice_index_or planned.new g F.Family.logic.unset ≡ result F.Family.logic (contents net.now) levels.now g) ⌝ }
-    ensures* rest { λ _. ⌜ ((g : ℕ) → net.now.head.gates ≤ g → slice_index_or planned.new g F.Family.logic.unset ≡ slice_index_or planned.old g F.Family.logic.unset) ⌝ }
-    ensures* calendar { λ _. ⌜ C.Calendar.meaning calendar.new ≡ plans F.Family.logic (contents net.now) levels.now planned.old moment.tick net.now.head.gates (C.Calendar.meaning calendar.old) ⌝ }
+    ensures long { length planned.new ≡ length planned.old }
+    ensures planned { (g : ℕ) → g < net.now.head.gates → slice_index_or planned.new g F.Family.logic.unset ≡ result_at F.Family.logic (contents net.now) levels.now g }
+    ensures rest { (g : ℕ) → net.now.head.gates ≤ g → slice_index_or planned.new g F.Family.logic.unset ≡ slice_index_or planned.old g F.Family.logic.unset }
+    ensures calendar { C.Calendar.meaning calendar.new ≡ plans F.Family.logic (contents net.now) levels.now planned.old moment.tick net.now.head.gates (C.Calendar.meaning calendar.old) }
 {
     for g in 0..net.head.gates {
         plan_gate::<F, C>(
@@ -42,11 +42,14 @@ fn plan_gate<F: Family, C: Calendar>(
     levels: &[F::Value; 1024],
     tick: u32,
 )
-    requires inside { (g < 1024) × ((gate.a < 1024) × (gate.b < 1024)) }
-    requires early { (tick ≤ 16777216) × (gate.delay ≤ 64) }
-    ensures* long { λ _. ⌜ length planned.old ≡ 1024 ⌝ }
-    ensures* planned { λ _. ⌜ planned.new ≡ slice_set planned.old g (result_of F.Family.logic gate levels.now) ⌝ }
-    ensures* calendar { λ _. ⌜ C.Calendar.meaning calendar.new ≡ put_changed F.Family.logic gate.delay g tick (result_of F.Family.logic gate levels.now) (slice_index_or planned.old g F.Family.logic.unset) (C.Calendar.meaning calendar.old) ⌝ }
+    requires inside { g < 1024 }
+    requires first { gate.a < 1024 }
+    requires second { gate.b < 1024 }
+    requires early { tick ≤ 16777216 }
+    requires soon { gate.delay ≤ 64 }
+    ensures long { length planned.old ≡ 1024 }
+    ensures planned { planned.new ≡ slice_set planned.old g (result_of F.Family.logic gate levels.now) }
+    ensures calendar { C.Calendar.meaning calendar.new ≡ put_changed F.Family.logic gate.delay g tick (result_of F.Family.logic gate levels.now) (slice_index_or planned.old g F.Family.logic.unset) (C.Calendar.meaning calendar.old) }
 {
     let v = operate::<F>(
         gate.kind,
@@ -59,8 +62,8 @@ fn plan_gate<F: Family, C: Calendar>(
 
 fn level<F: Family>(levels: &[F::Value; 1024], i: u16) -> F::Value
     requires { i < 1024 }
-    ensures* is { λ r. ⌜ r ≡ slice_index_or levels.now i F.Family.logic.unset ⌝ }
-    ensures* long { λ _. ⌜ length levels.now ≡ 1024 ⌝ }
+    ensures is { result ≡ slice_index_or levels.now i F.Family.logic.unset }
+    ensures long { length levels.now ≡ 1024 }
 {
     levels[i as usize]
 }
@@ -73,8 +76,9 @@ fn put_changed<F: Family, C: Calendar>(
     v: F::Value,
     was: F::Value,
 )
-    requires { (tick ≤ 16777216) × (delay ≤ 64) }
-    ensures* { λ _. ⌜ C.Calendar.meaning calendar.new ≡ put_changed F.Family.logic delay g tick v was (C.Calendar.meaning calendar.old) ⌝ }
+    requires early { tick ≤ 16777216 }
+    requires soon { delay ≤ 64 }
+    ensures { C.Calendar.meaning calendar.new ≡ put_changed F.Family.logic delay g tick v was (C.Calendar.meaning calendar.old) }
 {
     let code = F::code(v);
     if code == F::code(was) {
@@ -85,7 +89,7 @@ fn put_changed<F: Family, C: Calendar>(
 
 // What a gate of the kind gives on its inputs.
 pub fn operate<F: Family>(kind: u8, a: F::Value, b: F::Value) -> F::Value
-    ensures* { λ r. ⌜ r ≡ operate F.Family.logic kind a b ⌝ }
+    ensures { result ≡ operate F.Family.logic kind a b }
 {
     match kind {
         1 => F::and(a, a),
@@ -101,8 +105,9 @@ pub fn operate<F: Family>(kind: u8, a: F::Value, b: F::Value) -> F::Value
 
 // AND, OR and XOR, the kinds 3 to 5.
 fn two_input<F: Family>(kind: u8, a: F::Value, b: F::Value) -> F::Value
-    requires { (3 ≤ kind) × (kind ≤ 5) }
-    ensures* { λ r. ⌜ r ≡ operate F.Family.logic kind a b ⌝ }
+    requires low { 3 ≤ kind }
+    requires high { kind ≤ 5 }
+    ensures { result ≡ operate F.Family.logic kind a b }
 {
     match kind {
         3 => F::and(a, b),

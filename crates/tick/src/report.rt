@@ -84,7 +84,8 @@ fn put_record(out: &mut [u8], at: usize, tick: u32, net: u16, code: u16) -> usiz
 fn put(out: &mut [u8], at: usize, b: u8) -> usize
     requires { at < length out.old }
     ensures wrote { Wrote out.old at (b ∷ []) result out.new }
-    ensures out_len_unchanged { (length out.new ≡ length out.old) × (result ≡ at + 1) }
+    ensures long { length out.new ≡ length out.old }
+    ensures next { result ≡ at + 1 }
 {
     out[at] = b;
     at + 1

@@ -3,7 +3,7 @@ use Rattle.netlist.specs.Looked.{contents}
 use Rattle.netlist.specs.Parts.{blank}
 use Rattle.netlist.proofs.Contents.{gate_is}
 use Rattle.signal.specs.Circuit.{operate, gate}
-use Rattle.tick.specs.Plans.{result, result_of, put_changed}
+use Rattle.tick.specs.Plans.{result_at, result_of, put_changed}
 use Rattle.fanout.proofs.plan.plan_gate.Goals as goal
 
 pub returns : goal.returns
@@ -17,7 +17,7 @@ returns g c =
     let levels = c.args.levels.now in
     let planned = c.args.planned.now in
     let here : x ≡ gate C h = sym (gate_is net h low) in
-    let v : c.operate-v.result ≡ result L C levels h = c.operate-v.ensures ∙ (λ i. operate L x.kind (c.level-a.ensures.is i) (c.level-b.ensures.is i)) ∙ ap (λ y. result_of L y levels) here in
+    let v : c.operate-v.result ≡ result_at L C levels h = c.operate-v.ensures ∙ (λ i. operate L x.kind (c.level-a.ensures.is i) (c.level-b.ensures.is i)) ∙ ap (λ y. result_of L y levels) here in
     record {
       long = λ lt. c.level-was.ensures.long;
       planned = λ lt. ap (set planned h) v;

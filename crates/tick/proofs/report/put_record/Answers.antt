@@ -14,10 +14,10 @@ returns c =
     let f = c.put-e.ensures in
     let h = c.put-f.ensures in
     let j = c.put-g.ensures in
-    wrote_then (t / 16777216 % 256 ∷ []) _ (omega arith) a.0
-    (wrote_then (t / 65536 % 256 ∷ []) _ (omega (arith, a.1)) b.0
-    (wrote_then (t / 256 % 256 ∷ []) _ (omega (arith, a.1, b.1)) d.0
-    (wrote_then (t % 256 ∷ []) _ (omega (arith, a.1, b.1, d.1)) e.0
-    (wrote_then (n / 256 % 256 ∷ []) _ (omega (arith, a.1, b.1, d.1, e.1)) f.0
-    (wrote_then (n % 256 ∷ []) _ (omega (arith, a.1, b.1, d.1, e.1, f.1)) h.0
-    (wrote_then (k / 256 % 256 ∷ []) (k % 256 ∷ []) (omega (arith, a.1, b.1, d.1, e.1, f.1, h.1)) j.0 c.put.ensures.0))))))
+    wrote_then (t / 16777216 % 256 ∷ []) _ (omega arith) a.wrote
+    (wrote_then (t / 65536 % 256 ∷ []) _ (omega (arith, a.long, a.next)) b.wrote
+    (wrote_then (t / 256 % 256 ∷ []) _ (omega (arith, a.long, a.next, b.long, b.next)) d.wrote
+    (wrote_then (t % 256 ∷ []) _ (omega (arith, a.long, a.next, b.long, b.next, d.long, d.next)) e.wrote
+    (wrote_then (n / 256 % 256 ∷ []) _ (omega (arith, a.long, a.next, b.long, b.next, d.long, d.next, e.long, e.next)) f.wrote
+    (wrote_then (n % 256 ∷ []) _ (omega (arith, a.long, a.next, b.long, b.next, d.long, d.next, e.long, e.next, f.long, f.next)) h.wrote
+    (wrote_then (k / 256 % 256 ∷ []) (k % 256 ∷ []) (omega (arith, a.long, a.next, b.long, b.next, d.long, d.next, e.long, e.next, f.long, f.next, h.long, h.next)) j.wrote c.put.ensures.wrote))))))
