@@ -22,5 +22,6 @@ returns g c =
       long = λ lt. c.level-was.ensures.long;
       planned = λ lt. ap (set planned h) v;
       calendar = λ lt. c.put_changed.ensures ∙ (λ i. put_changed L (here i).delay h c.args.moment.tick (v i) (c.level-was.ensures.is i) (g.C.Calendar.meaning c.args.calendar.now));
-      past = ((λ ge. absurd (omega (arith, low))), (λ ge. absurd (omega (arith, low))));
+      past = λ ge. absurd (omega (arith, low));
+      still = λ ge. absurd (omega (arith, low));
     }

@@ -24,7 +24,7 @@ loop-g-preserved g c =
     (λ lt. done_more L C c.args.levels.now c.args.planned.now c.args.moment.tick a c.args.gates.now.words l.from l.gates.words l.planned (g.C.Calendar.meaning l.calendar) (omega (arith, e, net.table)) l.invariant
     h c.in-Some.ensures c.set.new.self.words c.set.ensures (omega (arith, e, lt)) (p.long lt) c.plan_gate.new.planned (g.C.Calendar.meaning c.plan_gate.new.calendar) (p.planned lt) (p.calendar lt))
     (λ ge. done_past L C c.args.levels.now c.args.planned.now c.args.moment.tick a c.args.gates.now.words l.from l.gates.words l.planned (g.C.Calendar.meaning l.calendar) (omega (arith, e, net.table)) l.invariant
-    h c.in-Some.ensures c.set.new.self.words c.set.ensures (omega (arith, e, ge)) c.plan_gate.new.planned (g.C.Calendar.meaning c.plan_gate.new.calendar) (p.past.0 ge) (p.past.1 ge))
+    h c.in-Some.ensures c.set.new.self.words c.set.ensures (omega (arith, e, ge)) c.plan_gate.new.planned (g.C.Calendar.meaning c.plan_gate.new.calendar) (p.past ge) (p.still ge))
     (cases_lt h net.head.gates)
 
 pub loop-g-smaller : goal.loop-g-smaller

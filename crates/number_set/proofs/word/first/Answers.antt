@@ -1,5 +1,4 @@
 use Rattle.std.proofs.Common.{rules}
-use borrow.Author.Numbers.{trailing_lt}
 use Rattle.number_set.proofs.Digits.{first_set, first_least}
 use Rattle.number_set.proofs.word.first.Goals as goal
 
