@@ -1,9 +1,8 @@
 -- Entries by tick, gate and code are in a strict order. Assumes nothing.
-use Rattle.std.proofs.Common.{◌≡◌, ℕ, zero, suc, ◌+◌, ◌-◌, ◌*◌, ◌/◌, ◌<◌, ◌≤◌, Bool, true, false, cond, ◌&&◌, ◌||◌, eqb, ltb, leb, List, [], ◌∷◌, ◌++◌, sym, refl, ap, ◌∙◌, subst, arith}
+use Rattle.std.proofs.Common.{◌≡◌, ℕ, Bool, true, false, ◌&&◌, ◌||◌, eqb, ltb, arith}
 use Rattle.std.proofs.lemmas.Bool.Decides.{nat_tests}
 use Rattle.calendar.specs.Order.{Strict}
 use Rattle.calendar.specs.Agenda.{before}
-use Rattle.calendar.specs.declared.entry.Entry.{Entry}
 
 abbrev pub lex : ℕ → ℕ → ℕ → ℕ → ℕ → ℕ → Bool
 lex a b c x y z = ltb a x || (eqb a x && (ltb b y || (eqb b y && ltb c z)))

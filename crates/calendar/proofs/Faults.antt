@@ -1,9 +1,8 @@
 -- When a put is refused. Assumes nothing.
-use Rattle.std.proofs.Common.{◌≡◌, ℕ, ◌+◌, ◌<◌, ◌≤◌, Bool, true, false, cond, ◌||◌, ltb, leb, List, [], ◌∷◌, length, Some, None, Option, sym, refl, ap, ◌∙◌, subst, arith}
+use Rattle.std.proofs.Common.{◌≡◌, ℕ, ◌+◌, ◌<◌, ◌≤◌, Bool, true, false, cond, ◌||◌, ltb, leb, length, Some, None, refl, ◌∙◌, arith}
 use Rattle.std.proofs.lemmas.Bool.{lt-leb, le-ltb, le-leb, or_from, cond-false, cond-true}
 use Rattle.calendar.specs.Agenda.{Agenda, put_refused, waits, before_tick, turn_refused}
 use Rattle.calendar.specs.declared.entry.Entry.{Entry}
-use Rattle.calendar.specs.declared.entry.Reason.{Reason}
 use Rattle.calendar.specs.declared.entry.Reason.TheVariants.{NoGate, BadTick, Twice, Full}
 
 module _ (a : Agenda) (e : Entry) (gate : e.gate < a.gates) (low : a.today < e.tick) (high : e.tick ≤ a.today + 64) (alone : waits e a.waiting ≡ false) where

@@ -1,9 +1,9 @@
 -- Each call keeps an agenda sound. Assumes nothing.
-use Rattle.std.proofs.Common.{◌≡◌, ℕ, suc, ◌+◌, ◌<◌, ◌≤◌, Bool, true, false, cond, ◌&&◌, ◌||◌, eqb, ltb, leb, List, [], ◌∷◌, length, Some, None, Option, sym, refl, ap, ◌∙◌, subst, arith}
+use Rattle.std.proofs.Common.{◌≡◌, ℕ, ◌+◌, ◌<◌, ◌≤◌, Bool, true, false, cond, ◌&&◌, eqb, ltb, leb, List, [], ◌∷◌, length, Some, refl, ap, ◌∙◌, arith}
 use Rattle.std.proofs.lemmas.Bool.Decides.{nat_tests}
-use Rattle.std.proofs.lemmas.Bool.{and_parts, and_from, or_parts, leb-true, le-leb, leb-false, ltb-true, ltb-false, lt-ltb, cases_Bool, both_ways}
+use Rattle.std.proofs.lemmas.Bool.{and_parts, and_from, or_parts, leb-true, le-leb, ltb-true, ltb-false, lt-ltb}
 use Rattle.calendar.specs.Order.{placed}
-use Rattle.calendar.specs.Agenda.{Agenda, before, same_slot, waits, slot_before, leads, rising, due, all_due, sound, put_refused, put_after, turn_refused, turn_after, before_tick, with_waiting, at_tick, unless, rest, first}
+use Rattle.calendar.specs.Agenda.{Agenda, before, waits, slot_before, leads, rising, due, all_due, sound, before_tick, with_waiting, at_tick, rest, first}
 use Rattle.calendar.specs.declared.entry.Entry.{Entry}
 use Rattle.calendar.proofs.Entries.{lex}
 use Rattle.calendar.proofs.Orders.{length_placed}

@@ -1,10 +1,10 @@
 -- Entries in order are what their table says. Assumes nothing.
-use Rattle.std.proofs.Common.{◌≡◌, ℕ, zero, suc, ◌+◌, ◌-◌, ◌*◌, ◌/◌, ◌%◌, ◌<◌, ◌≤◌, Bool, true, false, cond, not, ◌&&◌, ◌||◌, eqb, ltb, leb, List, [], ◌∷◌, Some, None, Option, sym, refl, ap, ◌∙◌, subst, ⊎_elim, arith}
+use Rattle.std.proofs.Common.{◌≡◌, ℕ, zero, suc, ◌+◌, ◌-◌, ◌*◌, ◌/◌, ◌%◌, ◌<◌, ◌≤◌, Bool, true, false, cond, not, ◌&&◌, ◌||◌, eqb, ltb, List, [], ◌∷◌, Some, None, Option, sym, refl, ap, ◌∙◌, ⊎_elim, arith}
 use Rattle.std.proofs.lemmas.Nat.{mul-add-lt, div-mul-add, mod-mul-add}
 use Rattle.std.proofs.lemmas.Bool.Decides.{nat_tests}
-use Rattle.std.proofs.lemmas.Bool.{and_parts, and_from, or_parts, cond-false, cond-true, eqb-true, eq-eqb, cases_Bool, both_ways, cases_eq, or_left, or_right, or_from}
+use Rattle.std.proofs.lemmas.Bool.{and_parts, and_from, or_parts, cond-false, cond-true, eqb-true, eq-eqb, both_ways, cases_eq, or_left, or_right, or_from}
 use Rattle.calendar.specs.Order.{placed}
-use Rattle.calendar.specs.Agenda.{before, rising, leads, slot_before, waits, same_slot, entry, before_tick}
+use Rattle.calendar.specs.Agenda.{before, rising, leads, waits, same_slot, entry, before_tick}
 use Rattle.calendar.specs.Table.{code_at, with_code, row, rows, slot}
 use Rattle.calendar.specs.declared.entry.Entry.{Entry}
 

@@ -1,14 +1,13 @@
 -- The laws of every calendar's meaning. Assumes nothing.
-use Rattle.std.proofs.Common.{◌≡◌, ℕ, zero, suc, ◌+◌, ◌<◌, ◌≤◌, Bool, true, false, cond, not, ◌&&◌, ◌||◌, eqb, ltb, leb, List, [], ◌∷◌, length, get_or, set, Some, None, Option, sym, refl, ap, ◌∙◌, ⊎_elim, arith, length-set, get_or-set_other, get_or-set_same}
+use Rattle.std.proofs.Common.{◌≡◌, ℕ, zero, suc, ◌+◌, ◌<◌, ◌≤◌, Bool, true, false, cond, not, ◌&&◌, eqb, ltb, leb, List, [], ◌∷◌, length, get_or, set, Some, None, Option, sym, refl, ap, ◌∙◌, ⊎_elim, arith, length-set, get_or-set_other, get_or-set_same}
 use Rattle.std.proofs.lemmas.Bool.Decides.{nat_tests}
-use Rattle.std.proofs.lemmas.Bool.{and_parts, and_from, cond-false, cond-true, eqb-true, eqb-false, cases_Bool, cases_order, both_ways, leb-true, leb-false, ne_eqb, and_left, lt-ltb, or_left}
+use Rattle.std.proofs.lemmas.Bool.{and_parts, cond-false, cond-true, eqb-true, eqb-false, cases_Bool, cases_order, both_ways, leb-true, leb-false, ne_eqb, and_left, lt-ltb, or_left}
 use Rattle.calendar.specs.Order.{placed}
-use Rattle.calendar.specs.Agenda.{Agenda, before, rising, leads, slot_before, same_slot, waits, before_tick, due, all_due, sound, put_refused, put_after, with_waiting, unless, first_tick}
+use Rattle.calendar.specs.Agenda.{Agenda, before, rising, leads, slot_before, same_slot, before_tick, due, all_due, sound, put_refused, put_after, with_waiting, unless, first_tick}
 use Rattle.calendar.specs.Table.{code_at, later}
 use Rattle.calendar.specs.Laws.{Laws, at}
 use Rattle.calendar.specs.Due.{applied, first_due_by, or_else}
 use Rattle.calendar.specs.declared.entry.Entry.{Entry}
-use Rattle.calendar.specs.declared.entry.Reason.{Reason}
 use Rattle.calendar.proofs.Faults.{put_alone}
 use Rattle.calendar.proofs.Sound.{due_parts, sound_rising, sound_due, sound_room}
 use Rattle.calendar.proofs.Tables.{lex2, code_at_placed, none_after, none_before, not_itself, first_code, past, same_table}

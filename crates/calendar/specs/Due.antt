@@ -1,5 +1,5 @@
 -- What taking every entry due by a tick makes of the gates' levels. Assumes nothing.
-use Rattle.std.specs.Prelude.{ℕ, Bool, false, cond, List, [], ◌∷◌, set, Some, None, Option, nat_le, slice_set}
+use Rattle.std.specs.Prelude.{ℕ, Bool, false, cond, List, [], ◌∷◌, Some, None, Option, nat_le, slice_set}
 use Rattle.calendar.specs.declared.entry.Entry.{Entry}
 
 -- the levels once the codes due by tick t are set in, in order

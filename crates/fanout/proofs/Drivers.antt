@@ -1,12 +1,12 @@
 -- What drives a net, gate after gate of its chain.
-use Rattle.std.proofs.Common.{◌≡◌, ℕ, zero, suc, ◌+◌, ◌-◌, ◌<◌, ◌≤◌, Bool, true, false, cond, eqb, ltb, List, [], ◌∷◌, ◌++◌, length, get_or, sym, refl, ap, ◌∙◌, add-zero, arith}
+use Rattle.std.proofs.Common.{◌≡◌, ℕ, zero, suc, ◌+◌, ◌-◌, ◌<◌, ◌≤◌, Bool, true, false, cond, ltb, List, [], ◌∷◌, ◌++◌, get_or, sym, refl, ap, ◌∙◌, add-zero, arith}
 use Rattle.std.proofs.lemmas.List.{append-nil}
 use Rattle.std.proofs.lemmas.Bool.{eq-eqb, ne_eqb}
 use Rattle.logic.specs.Logic.{Logic}
 use Rattle.netlist.specs.Board.{Board}
-use Rattle.signal.specs.Circuit.{gate, gate_count}
+use Rattle.signal.specs.Circuit.{gate_count}
 use Rattle.signal.specs.Signal.{resolved, resolved_onto}
-use Rattle.tick.specs.Settled.{by_port, by_gate, drivers_below, drivers_of}
+use Rattle.tick.specs.Settled.{by_port, drivers_below, drivers_of}
 use Rattle.tick.proofs.Shows.{some, more}
 use Rattle.fanout.specs.Seek.{seek, out_of}
 use Rattle.fanout.proofs.Chains.{stop, stop_at, stop_end, chain_inside, chain_from, chain_none}

@@ -1,11 +1,11 @@
 -- A tick that works only on what changed comes to what a tick over all nets and gates comes to.
-use Rattle.std.proofs.Common.{◌≡◌, ℕ, ◌+◌, ◌<◌, ◌≤◌, Bool, true, false, cond, eqb, List, [], ◌∷◌, ◌++◌, length, get_or, sym, refl, ap, ◌∙◌, ⊎_elim, arith}
-use Rattle.std.specs.List.{range_with_len, flat_map}
+use Rattle.std.proofs.Common.{◌≡◌, ℕ, ◌<◌, true, false, cond, eqb, List, [], ◌∷◌, ◌++◌, get_or, sym, ap, ◌∙◌, ⊎_elim, arith}
+use Rattle.std.specs.List.{range_with_len}
 use Rattle.std.proofs.lemmas.Bool.{ne_eqb, cases_eq, cases_Bool}
 use Rattle.logic.specs.Logic.{Logic}
 use Rattle.netlist.specs.Board.{Board}
 use Rattle.number_set.specs.Members.{member}
-use Rattle.signal.specs.Circuit.{gate, gate_count}
+use Rattle.signal.specs.Circuit.{gate_count}
 use Rattle.signal.specs.Signal.{resolved}
 use Rattle.signal.proofs.Rows.{joined_each, counting_all}
 use Rattle.tick.specs.Plans.{result_at}

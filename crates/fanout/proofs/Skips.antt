@@ -1,5 +1,5 @@
 -- Planning passes over a gate that has planned what it gives.
-use Rattle.std.proofs.Common.{◌≡◌, ℕ, zero, suc, ◌+◌, ◌-◌, ◌<◌, ◌≤◌, Bool, true, false, cond, eqb, ltb, List, length, get_or, set, Some, None, sym, refl, ap, ◌∙◌, ⊎_elim, add-zero, arith, length-set, get_or-set_other, get_or-set_same}
+use Rattle.std.proofs.Common.{◌≡◌, ℕ, zero, suc, ◌+◌, ◌-◌, ◌<◌, ◌≤◌, false, cond, eqb, ltb, List, length, get_or, set, Some, None, sym, refl, ap, ◌∙◌, ⊎_elim, add-zero, arith, length-set, get_or-set_other, get_or-set_same}
 use Rattle.std.proofs.lemmas.Bool.{eq-eqb, lt-ltb, le-ltb, cond-true, cond-false, cases_eq, cases_lt}
 use Rattle.calendar.specs.Agenda.{Agenda, entry, put_after}
 use Rattle.logic.specs.Logic.{Logic}

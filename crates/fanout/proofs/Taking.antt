@@ -1,5 +1,5 @@
 -- One due entry is taken.
-use Rattle.std.proofs.Common.{◌≡◌, ℕ, Bool, true, cond, eqb, List, [], ◌∷◌, Some, None, sym, ap, ◌∙◌, arith}
+use Rattle.std.proofs.Common.{◌≡◌, ℕ, true, cond, List, [], ◌∷◌, Some, sym, ap, ◌∙◌, arith}
 use Rattle.calendar.specs.declared.entry.Entry.{Entry}
 use Rattle.calendar.specs.Agenda.{first, rest}
 use Rattle.logic.specs.Logic.{Logic}

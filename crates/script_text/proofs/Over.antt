@@ -1,6 +1,6 @@
 -- One text written behind another, as far as there is room. Assumes nothing.
-use Rattle.std.proofs.Common.{◌≡◌, ℕ, zero, suc, ◌+◌, ◌-◌, ◌<◌, ◌≤◌, min, List, [], ◌∷◌, ◌++◌, length, take, drop, set, sym, refl, ap, ◌∙◌, subst, ⊎_elim, append_assoc, add-zero, add_assoc, add-one, arith, length-append, length-drop, take-append-drop, length-take}
-use Rattle.std.proofs.lemmas.List.{take_at, take_all, drop_at, drop-drop, length-take-le, set_split, append-nil}
+use Rattle.std.proofs.Common.{◌≡◌, ℕ, zero, suc, ◌+◌, ◌-◌, ◌<◌, ◌≤◌, List, [], ◌∷◌, ◌++◌, length, take, drop, set, sym, refl, ap, ◌∙◌, subst, ⊎_elim, append_assoc, add-zero, add_assoc, add-one, arith, length-append, length-drop, take-append-drop, length-take}
+use Rattle.std.proofs.lemmas.List.{take_at, take_all, drop_at, drop-drop, length-take-le, set_split}
 use Rattle.std.proofs.lemmas.Bool.{cases_lt}
 use Rattle.script_text.specs.Laid.{written, Wrote, Lays}
 

@@ -1,5 +1,5 @@
 -- What taking the entries of one tick does.
-use Rattle.std.specs.Prelude.{ℕ, Bool, false, cond, List, [], ◌∷◌, set, Some, None, Option, ◌==◌, slice_set}
+use Rattle.std.specs.Prelude.{ℕ, Bool, false, cond, List, [], ◌∷◌, Some, None, Option, ◌==◌, slice_set}
 use Rattle.calendar.specs.declared.entry.Entry.{Entry}
 use Rattle.logic.specs.Logic.{Logic}
 

@@ -1,11 +1,11 @@
 -- What a put, a remove and a look make of a ring's table. Assumes nothing.
-use Rattle.std.proofs.Common.{◌≡◌, ℕ, ◌+◌, ◌*◌, ◌/◌, ◌%◌, ◌<◌, ◌≤◌, Bool, true, false, cond, ◌&&◌, eqb, List, length, get_or, set, Some, None, Option, sym, refl, ap, ◌∙◌, ⊎_elim, arith, get_or-set_other, get_or-set_same}
-use Rattle.std.proofs.lemmas.Bool.{and_from, and_parts, cond-true, cond-false, cases_eq, cases_lt, cases_Bool, both_ways, eqb-true, eq-eqb}
+use Rattle.std.proofs.Common.{◌≡◌, ℕ, ◌+◌, ◌*◌, ◌%◌, ◌<◌, ◌≤◌, Bool, true, false, cond, ◌&&◌, eqb, List, length, get_or, set, Some, None, sym, refl, ap, ◌∙◌, ⊎_elim, arith, get_or-set_other, get_or-set_same}
+use Rattle.std.proofs.lemmas.Bool.{and_from, cond-true, cond-false, cases_eq, cases_lt, both_ways, eq-eqb}
 use Rattle.calendar.specs.Table.{slot}
 use Rattle.calendar.specs.Agenda.{entry}
 use Rattle.calendar.proofs.Tables.{one_place, in_table}
 use Rattle.wheel.specs.Roster.{present, Least}
-use Rattle.wheel.specs.Rings.{table, Shape, RowFirst, Inside}
+use Rattle.wheel.specs.Rings.{table, RowFirst, Inside}
 use Rattle.wheel.proofs.Rosters.{no_match}
 
 -- the roster after one bit was set as `on` says

@@ -8,11 +8,11 @@ use Rattle.calendar.specs.Table.{code_at, rows, slot}
 use Rattle.calendar.specs.declared.entry.Entry.{Entry}
 use Rattle.calendar.proofs.Entries.{lex}
 use Rattle.calendar.proofs.Sound.{rising_placed, due_parts}
-use Rattle.calendar.proofs.Tables.{same_table, code_at_placed, rows_rise, rows_at, rows_gate, rows_out, none_before, starts, lex2, rows_none, rows_found, waits_none, one_tick, round, sooner, begins}
+use Rattle.calendar.proofs.Tables.{same_table, code_at_placed, rows_rise, rows_at, rows_gate, rows_out, none_before, rows_none, rows_found, waits_none, one_tick, round, sooner, begins}
 use Rattle.calendar.proofs.Waiting.{take_table, before_first}
 use Rattle.wheel.specs.Digits.{digit, flag}
 use Rattle.wheel.specs.Roster.{present, Summed}
-use Rattle.wheel.specs.Rings.{table, Inside, TableFirst, Clear, Soonest}
+use Rattle.wheel.specs.Rings.{table, TableFirst, Clear, Soonest}
 use Rattle.wheel.proofs.Digits.{digit_zero}
 use Rattle.wheel.proofs.Rosters.{no_match}
 

@@ -1,5 +1,5 @@
-use Rattle.std.proofs.Common.{◌≡◌, ℕ, ◌<◌, Bool, true, false, cond, eqb, get_or, set, sym, refl, ap, ◌∙◌, ⊎_elim, arith, get_or-set_other}
-use Rattle.std.proofs.lemmas.Bool.{cases_eq, eq-eqb, both_ways, cond-true}
+use Rattle.std.proofs.Common.{◌≡◌, ◌<◌, Bool, true, false, cond, eqb, get_or, sym, refl, ap, ◌∙◌, arith, get_or-set_other}
+use Rattle.std.proofs.lemmas.Bool.{eq-eqb, both_ways, cond-true}
 use Rattle.netlist.specs.Looked.{contents}
 use Rattle.netlist.specs.Parts.{blank}
 use Rattle.netlist.proofs.Contents.{gate_is}

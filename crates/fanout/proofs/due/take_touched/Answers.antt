@@ -1,4 +1,4 @@
-use Rattle.std.proofs.Common.{◌≡◌, ℕ, ◌<◌, sym, ap, ◌∙◌, arith}
+use Rattle.std.proofs.Common.{◌<◌, sym, ap, ◌∙◌, arith}
 use Rattle.calendar.specs.Agenda.{Agenda, with_waiting}
 use Rattle.calendar.proofs.Sound.{first_due, due_parts}
 use Rattle.netlist.specs.Looked.{contents}

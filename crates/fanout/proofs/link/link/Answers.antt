@@ -1,6 +1,5 @@
-use Rattle.std.proofs.Common.{◌≡◌, ℕ, ◌+◌, ◌-◌, ◌<◌, ◌≤◌, get_or, set, sym, ap, ◌∙◌, subst, arith}
+use Rattle.std.proofs.Common.{◌≡◌, ℕ, ◌+◌, ◌-◌, ◌<◌, get_or, set, sym, ap, ◌∙◌, subst, arith}
 use Rattle.netlist.specs.Looked.{contents}
-use Rattle.netlist.specs.Parts.{blank}
 use Rattle.netlist.proofs.Contents.{gate_is}
 use Rattle.fanout.specs.Seek.{seek, pin_key, key_of}
 use Rattle.fanout.proofs.Chains.{Linked, linked_none, linked_more}

@@ -1,6 +1,5 @@
-use Rattle.std.proofs.Common.{◌≡◌, ℕ, ◌+◌, ◌-◌, ◌<◌, ◌≤◌, sym, refl, ap, ◌∙◌, arith}
 use Rattle.netlist.specs.Looked.{contents}
-use Rattle.fanout.specs.Seek.{seek, key_of}
+use Rattle.fanout.specs.Seek.{key_of}
 use Rattle.fanout.proofs.Chains.{goes_on}
 use Rattle.fanout.proofs.Readers.{marks_none, marks_more, marks_all}
 use Rattle.fanout.proofs.settle.mark_readers.Goals as goal

@@ -1,8 +1,7 @@
-use Rattle.std.proofs.Common.{◌≡◌, ℕ, ◌+◌, ◌-◌, ◌<◌, ◌≤◌, cond, ltb, length, get_or, sym, refl, ap, ◌∙◌, arith}
+use Rattle.std.proofs.Common.{◌+◌, ◌-◌, ◌<◌, cond, ltb, sym, refl, ap, ◌∙◌, arith}
 use Rattle.std.proofs.lemmas.List.{get_or_default}
 use Rattle.netlist.specs.Looked.{contents}
 use Rattle.netlist.proofs.Contents.{gate_count as gates-count}
-use Rattle.signal.specs.Circuit.{gate_count}
 use Rattle.fanout.specs.Seek.{seek, out_of}
 use Rattle.fanout.proofs.Chains.{goes_on}
 use Rattle.fanout.proofs.Drivers.{sofar_none, sofar_more, sofar_all}

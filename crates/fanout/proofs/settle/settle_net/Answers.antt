@@ -1,10 +1,8 @@
-use Rattle.std.proofs.Common.{◌≡◌, ℕ, ◌<◌, true, false, get_or, set, sym, refl, ap, ◌∙◌, ⊎_elim, arith}
+use Rattle.std.proofs.Common.{◌≡◌, ℕ, ◌<◌, true, get_or, set, sym, refl, ap, ◌∙◌, ⊎_elim, arith}
 use lib.Seq.{set-get_or}
 use Rattle.std.proofs.lemmas.Bool.{both_ways, cases_Bool}
 use Rattle.netlist.specs.Looked.{contents}
 use Rattle.number_set.specs.Members.{member}
-use Rattle.fanout.specs.declared.pin.Pin.TheVariants.{First, Second}
-use Rattle.fanout.specs.Seek.{key_of}
 use Rattle.fanout.proofs.Readers.{reads_other}
 use Rattle.fanout.proofs.settle.settle_net.Goals as goal
 

@@ -1,4 +1,4 @@
-use Rattle.std.proofs.Common.{◌≡◌, ℕ, ◌+◌, ◌-◌, ◌<◌, ◌≤◌, sym, refl, ap, ◌∙◌, arith}
+use Rattle.std.proofs.Common.{arith}
 use Rattle.netlist.specs.Looked.{contents}
 use Rattle.fanout.proofs.Settling.{settles_none, settles_more, settles_all}
 use Rattle.fanout.proofs.Sweeps.{swept_from}

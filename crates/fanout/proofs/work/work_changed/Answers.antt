@@ -1,4 +1,4 @@
-use Rattle.std.proofs.Common.{◌≡◌, ap, ◌∙◌, arith}
+use Rattle.std.proofs.Common.{ap, ◌∙◌, arith}
 use Rattle.netlist.specs.Looked.{contents}
 use Rattle.netlist.proofs.Contents.{gate_count as gates-count}
 use Rattle.tick.specs.Plans.{plans}

@@ -1,8 +1,8 @@
-use Rattle.std.proofs.Common.{◌-◌, ◌/◌, length, arith}
+use Rattle.std.proofs.Common.{length, arith}
 use Rattle.std.proofs.lemmas.List.Sorted.{IsPermutation-trans, IsPermutation-refl}
 use Rattle.calendar.specs.Agenda.{before, entry}
 use Rattle.calendar.proofs.Entries.{strict}
-use Rattle.heap.proofs.Heaps.{sink_begins, sink_rests, sink_steps, sink_ends, tested}
+use Rattle.heap.proofs.Heaps.{sink_begins, sink_rests, sink_steps, tested}
 use Rattle.heap.proofs.sift.sift_down.Goals as goal
 
 pub returns-then-not-earlier : goal.returns-then-not-earlier

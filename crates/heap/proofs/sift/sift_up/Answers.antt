@@ -1,4 +1,4 @@
-use Rattle.std.proofs.Common.{◌-◌, ◌/◌, length, sym, arith}
+use Rattle.std.proofs.Common.{◌-◌, ◌/◌, length, arith}
 use Rattle.std.proofs.lemmas.List.Sorted.{IsPermutation-trans, IsPermutation-refl}
 use Rattle.calendar.specs.Agenda.{before, entry}
 use Rattle.calendar.proofs.Entries.{strict}

@@ -1,6 +1,6 @@
-use Rattle.std.proofs.Common.{◌≡◌, ◌<◌, ◌≤◌, false, ◌&&◌, leb, get_or, sym, refl, arith}
+use Rattle.std.proofs.Common.{◌≡◌, ◌≤◌, false, ◌&&◌, leb, get_or, arith}
 use Rattle.std.proofs.lemmas.Bool.Decides.{nat_tests}
-use Rattle.script_text.proofs.Numbers.{Sofar, room, digit_more, digit_none, digits_done}
+use Rattle.script_text.proofs.Numbers.{room, digit_more, digit_none, digits_done}
 use Rattle.script_text.proofs.parse.read_number.Goals as goal
 
 pub overflow_mul-n : goal.overflow_mul-n
@@ -15,8 +15,8 @@ returns-in_default c =
     let none = digit_none _ _ _ c.loop-d.invariant c.loop-d-test.true no_digit in
     grind (arith, nat_tests, none)
 
-pub returns-in_default·2 : goal.returns-in_default·2
-returns-in_default·2 c =
+pub returns-in_default-2 : goal.returns-in_default-2
+returns-in_default-2 c =
     let no_digit : (leb 48 (get_or c.args.digits.now c.loop-d.d-index 0) && leb (get_or c.args.digits.now c.loop-d.d-index 0) 57) ≡ false = grind (arith, nat_tests) in
     let none = digit_none _ _ _ c.loop-d.invariant c.loop-d-test.true no_digit in
     grind (arith, nat_tests, none)

@@ -1,4 +1,4 @@
-use Rattle.std.proofs.Common.{◌≡◌, ◌+◌, ◌*◌, [], ◌∷◌, decimal, sym, subst}
+use Rattle.std.proofs.Common.{[], ◌∷◌, decimal, subst}
 use Rattle.script_text.specs.Commands.{name_of}
 use Rattle.script_text.specs.Laid.{Lays}
 use Rattle.script_text.specs.Texts.{record_text}

@@ -1,5 +1,4 @@
 use Rattle.std.proofs.Common.{rules}
-use borrow.Author.Numbers.{trailing_lt}
 use Rattle.wheel.proofs.Digits.{first_set, first_least}
 use Rattle.wheel.proofs.word.first.Goals as goal
 

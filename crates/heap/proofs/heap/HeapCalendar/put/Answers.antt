@@ -1,4 +1,4 @@
-use Rattle.std.proofs.Common.{◌≡◌, ◌+◌, ◌<◌, ◌≤◌, true, length, take, set, sym, refl, ap, ◌∙◌, subst, arith, length-set, length-take-le, rules}
+use Rattle.std.proofs.Common.{◌≡◌, true, length, take, set, sym, ap, ◌∙◌, subst, arith, length-set, length-take-le}
 use Rattle.calendar.specs.Table.{slot}
 use Rattle.heap.specs.Marks.{Marked}
 use Rattle.heap.proofs.Marking.{marked_put}
@@ -48,4 +48,4 @@ invariant_of-self c =
     let marked = marked_put 1024 m (omega arith) h.today a.waiting e (omega arith) (omega arith) (omega arith) h.marked in
     let sized : length c.mark.new.self.marks ≡ 66560 = ap length c.mark.ensures ∙ length-set m (slot 1024 c.args.tick c.args.gate) true ∙ h.sized in
     let marks : Marked c.mark.new.self.marks 1024 h.today (in_order before (take c.push.new.self.len c.push.new.self.entries.now)) = subst (λ z. Marked z 1024 h.today (in_order before (take c.push.new.self.len c.push.new.self.entries.now))) (sym c.mark.ensures) (subst (λ z. Marked (set m (slot 1024 c.args.tick c.args.gate) true) 1024 h.today z) (sym told.items) marked) in
-    (omega arith, (omega arith, (ap sound is ∙ stays, (sized, (marks, (told.heaped, tt))))))
+    record { within = omega arith; small = omega arith; sound = ap sound is ∙ stays; sized = sized; marked = marks; heaped = told.heaped }

@@ -1,4 +1,4 @@
-use Rattle.std.proofs.Common.{◌≡◌, false, ◌∷◌, length, take, set, sym, refl, ap, ◌∙◌, subst, arith, length-set}
+use Rattle.std.proofs.Common.{◌≡◌, false, length, take, sym, ap, ◌∙◌, subst, arith, length-set}
 use Rattle.calendar.specs.Agenda.{before, with_waiting, sound, rest, first, rising}
 use Rattle.heap.specs.Heaps.{heap_agenda}
 use Rattle.calendar.specs.Order.{in_order}
@@ -29,4 +29,4 @@ invariant_of-self c =
     let was = subst (λ z. Marked m 1024 h.today z) told.items h.marked in
     let marked = marked_take 1024 m (omega arith) h.today left e (omega arith) (omega arith) d.2 (ap rising (sym told.items) ∙ sound_rising a h.sound) was in
     let sized : length c.mark.new.self.marks ≡ 66560 = ap length c.mark.ensures ∙ length-set m (slot 1024 e.tick e.gate) false ∙ h.sized in
-    (omega arith, (omega arith, (ap sound is ∙ sound_taken a h.sound, (sized, (subst (λ z. Marked z 1024 h.today left) (sym c.mark.ensures) marked, (told.heaped, tt))))))
+    record { within = omega arith; small = omega arith; sound = ap sound is ∙ sound_taken a h.sound; sized = sized; marked = subst (λ z. Marked z 1024 h.today left) (sym c.mark.ensures) marked; heaped = told.heaped }

@@ -1,4 +1,4 @@
-use Rattle.std.proofs.Common.{length, arith}
+use Rattle.std.proofs.Common.{length}
 use Rattle.calendar.proofs.Tables.{in_table}
 use Rattle.wheel.proofs.Rings.{row_none, row_some, inside_gate}
 use Rattle.wheel.proofs.ring.Ring.first_of.Goals as goal

@@ -1,4 +1,4 @@
-use Rattle.std.proofs.Common.{◌*◌, ◌%◌, true, length, refl, ◌∙◌, arith, length-set}
+use Rattle.std.proofs.Common.{true, length, refl, arith, length-set}
 use Rattle.calendar.specs.Table.{slot}
 use Rattle.calendar.proofs.Tables.{in_table}
 use Rattle.wheel.proofs.Rings.{added, still_inside}

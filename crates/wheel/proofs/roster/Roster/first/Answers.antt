@@ -1,4 +1,3 @@
-use Rattle.std.proofs.Common.{arith}
 use Rattle.wheel.proofs.Rosters.{empty_row, some_word, least_gate}
 use Rattle.wheel.proofs.roster.Roster.first.Goals as goal
 

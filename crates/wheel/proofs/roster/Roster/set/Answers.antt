@@ -1,4 +1,4 @@
-use Rattle.std.proofs.Common.{◌+◌, ◌*◌, ◌/◌, ◌∙◌, arith, length-set}
+use Rattle.std.proofs.Common.{◌+◌, ◌*◌, ◌/◌, ◌∙◌, length-set}
 use Rattle.wheel.proofs.Rosters.{set_there, set_summed}
 use Rattle.wheel.proofs.roster.Roster.set.Goals as goal
 

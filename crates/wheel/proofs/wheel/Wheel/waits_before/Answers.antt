@@ -1,4 +1,4 @@
-use Rattle.std.proofs.Common.{sym, ◌∙◌, arith}
+use Rattle.std.proofs.Common.{arith}
 use Rattle.calendar.specs.Table.{rows}
 use Rattle.wheel.specs.Rings.{table}
 use Rattle.wheel.proofs.Wheels.{none_before_tick, before_soonest}

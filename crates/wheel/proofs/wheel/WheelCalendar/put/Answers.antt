@@ -1,4 +1,4 @@
-use Rattle.std.proofs.Common.{◌≡◌, ◌+◌, ◌*◌, ◌%◌, ◌<◌, ◌≤◌, cond, ◌||◌, eqb, ltb, length, get_or, Some, None, sym, refl, ap, ◌∙◌, subst, arith}
+use Rattle.std.proofs.Common.{◌≡◌, ◌*◌, ◌%◌, cond, ◌||◌, eqb, ltb, length, get_or, Some, None, sym, ap, ◌∙◌, subst, arith}
 use Rattle.std.proofs.lemmas.Bool.{cond-true, cond-false}
 use Rattle.calendar.specs.Agenda.{before, entry, outcome, unless, with_waiting, sound}
 use Rattle.calendar.specs.Order.{placed}
@@ -66,7 +66,18 @@ invariant_of-self c =
     let shape = told.shape in
     let sooner : c.sooner-self.result ≡ cond (eqb (length a.waiting) 0 || ltb t w.soon) t w.soon = c.sooner-self.ensures ∙ ap (λ z. cond (eqb z 0 || ltb t w.soon) t w.soon) counted in
     let soonest = subst (λ z. Soonest z c.sooner-self.result) (sym rows_are) (subst (Soonest (placed before e a.waiting)) (sym sooner) (soonest_placed e a.waiting w.soon w.soonest)) in
-    (shape.wide, (shape.few, (shape.words, (shape.marks, (shape.summed, (shape.inside, (w.fits, (omega (arith, ap length rows_are, length_placed before e a.waiting), (ap sound is ∙ stays, (soonest, tt))))))))))
+    record {
+      wide = shape.wide;
+      few = shape.few;
+      words = shape.words;
+      marks = shape.marks;
+      summed = shape.summed;
+      inside = shape.inside;
+      fits = w.fits;
+      counted = omega (arith, ap length rows_are, length_placed before e a.waiting);
+      sound = ap sound is ∙ stays;
+      soonest = soonest;
+    }
 
 pub returns : goal.returns
 returns c =

@@ -1,4 +1,4 @@
-use Rattle.std.proofs.Common.{◌≡◌, ◌*◌, ◌%◌, ◌&&◌, eqb, length, sym, refl, ap, ◌∙◌, subst, arith}
+use Rattle.std.proofs.Common.{◌≡◌, ◌*◌, ◌%◌, ◌&&◌, eqb, length, sym, ap, ◌∙◌, subst, arith}
 use Rattle.calendar.specs.Agenda.{with_waiting, sound, rest}
 use Rattle.calendar.specs.Table.{rows}
 use Rattle.calendar.proofs.Sound.{sound_taken, sound_due}
@@ -64,7 +64,18 @@ invariant_of-self c =
     let rows_are : rows (table last.gates vs ys) w.today 65 last.gates ≡ list.0 = (λ i. rows (table (told.gates i) vs ys) w.today 65 (told.gates i)) ∙ took in
     let is : wheel_agenda w.today last.gates vs ys ≡ with_waiting a (rest a.waiting) = (λ i. record { today = w.today; gates = told.gates i; capacity = 64 * told.gates i; waiting = (rows_are ∙ sym (ap rest list.1)) i }) in
     let shape = told.shape in
-    (shape.wide, (shape.few, (shape.words, (shape.marks, (shape.summed, (shape.inside, (w.fits, (omega (arith, ap length rows_are, ap length list.1), (ap sound is ∙ sound_taken a w.sound, (c.head_tick-self.ensures, tt))))))))))
+    record {
+      wide = shape.wide;
+      few = shape.few;
+      words = shape.words;
+      marks = shape.marks;
+      summed = shape.summed;
+      inside = shape.inside;
+      fits = w.fits;
+      counted = omega (arith, ap length rows_are, ap length list.1);
+      sound = ap sound is ∙ sound_taken a w.sound;
+      soonest = c.head_tick-self.ensures;
+    }
 
 pub returns-in-Some : goal.returns-in-Some
 returns-in-Some c =

@@ -1,4 +1,4 @@
-use Rattle.std.proofs.Common.{◌≡◌, ◌*◌, length, sym, refl, ap, ◌∙◌, subst, arith}
+use Rattle.std.proofs.Common.{◌≡◌, ◌*◌, length, sym, ap, ◌∙◌, subst, arith}
 use Rattle.calendar.specs.Agenda.{at_tick, sound, outcome, unless}
 use Rattle.calendar.proofs.Faults.{turn_stands}
 use Rattle.calendar.proofs.Sound.{sound_turned}
@@ -17,7 +17,18 @@ invariant_of-self c =
     let none = sym c.if-waits_before.ensures in
     let same = turn_rows (table G ws xs) (around G ws xs) G w.today t (omega arith) none in
     let is : wheel_agenda t G ws xs ≡ at_tick a t = (λ i. record { today = t; gates = G; capacity = 64 * G; waiting = same i }) in
-    (w.wide, (w.few, (w.words, (w.marks, (w.summed, (w.inside, (omega arith, (w.counted ∙ sym (ap length same), (ap sound is ∙ sound_turned a t w.sound (omega arith) none, (subst (λ z. Soonest z w.soon) (sym same) w.soonest, tt))))))))))
+    record {
+      wide = w.wide;
+      few = w.few;
+      words = w.words;
+      marks = w.marks;
+      summed = w.summed;
+      inside = w.inside;
+      fits = omega arith;
+      counted = w.counted ∙ sym (ap length same);
+      sound = ap sound is ∙ sound_turned a t w.sound (omega arith) none;
+      soonest = subst (λ z. Soonest z w.soon) (sym same) w.soonest;
+    }
 
 pub returns : goal.returns
 returns c =
