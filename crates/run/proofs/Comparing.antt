@@ -54,7 +54,7 @@ agree L v w same = by (L.definite v) same
     by true same = ap not (eq-eqb (L.code v) (L.code w) (ap L.code (sym (same refl))))
     by false same = refl
 
-module _ {F C D V : Type 0} (f : Family F V) (c : Calendar C) (d : Calendar D) (x : Run F C V) (y : Run F D V) where
+module _ {F C D V : Type 0} (f : Family F V) (c : Calendar C) (d : Calendar D) (x : Run F C V f c) (y : Run F D V f d) where
   -- what the two runs show at net n
   abbrev shown : (B B' : Board) (s s' : State V) → ℕ → Bool
   shown B B' s s' n = contradicts f.logic (level f.logic B s n (s.ticks - 1)) (level f.logic B' s' n (s'.ticks - 1))

@@ -83,7 +83,7 @@ quiet us a u e is = more us a u [] e is ∙ append-nil u
 -- ---- a handled run is one of any make
 
 module _ {F C V : Type 0} (f : Family F V) (c : Calendar C) where
-  pub of_any_make : {B : Board} {fit : Bool} {cs : List Call} {x : Run F C V} {u : List ℕ} → Handled f c B fit cs x u →
+  pub of_any_make : {B : Board} {fit : Bool} {cs : List Call} {x : Run F C V f c} {u : List ℕ} → Handled f c B fit cs x u →
       (us : List Answer) × (Any f.logic (Has f c) B fit cs x us × (flat_map wrote us ≡ u))
   of_any_make (opens board calendar o) = ([], (any-opens o, refl))
   of_any_make (wakes {B = B} {u = u} past g k y r w) =
