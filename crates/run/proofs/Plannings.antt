@@ -1,6 +1,6 @@
 -- What the calendar holds once every gate has planned.
 use Rattle.std.proofs.Common.{◌≡◌, ℕ, zero, suc, ◌+◌, ◌-◌, ◌<◌, ◌≤◌, Bool, true, false, cond, ◌&&◌, ◌||◌, eqb, List, [], ◌∷◌, get_or, None, sum_by, sym, refl, ap, ◌∙◌, add-one, arith}
-use Rattle.std.specs.List.{AllByRecursion as All}
+use Rattle.std.specs.List.{AllByRecursion}
 use Rattle.std.proofs.lemmas.Bool.{eqb-true, eqb-false}
 use Rattle.std.proofs.lemmas.Bool.Decides.{nat_tests}
 use Rattle.calendar.specs.declared.entry.Entry.{Entry}
@@ -15,7 +15,7 @@ use Rattle.signal.proofs.Signals.{d_after}
 use Rattle.signal.proofs.Planning.{planned, planned_same, planned_more, planned_free, planned_room}
 use Rattle.tick.specs.Plans.{result_at, plans, put_changed}
 
-free_alone : (e : Entry) (w : List Entry) → All (λ (x : Entry). x.tick ≡ e.tick → x.gate ≡ e.gate → ⊥) w → waits e w ≡ false
+free_alone : (e : Entry) (w : List Entry) → AllByRecursion (λ (x : Entry). x.tick ≡ e.tick → x.gate ≡ e.gate → ⊥) w → waits e w ≡ false
 free_alone e [] h = refl
 free_alone e (x ∷ w) h = apart e.tick e.gate x.tick x.gate (waits e w) h.0 (free_alone e w h.1)
   where

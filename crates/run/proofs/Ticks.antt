@@ -1,7 +1,7 @@
 -- One tick more.
 use Rattle.std.proofs.Common.{◌≡◌, ℕ, ◌+◌, ◌-◌, ◌*◌, ◌/◌, ◌<◌, ◌≤◌, Bool, true, cond, List, [], length, get_or, sum_by, sym, refl, ap, ◌∙◌, subst, add-one, arith}
 use Rattle.std.proofs.lemmas.Bool.{le-leb}
-use Rattle.std.specs.List.{flat_map, AllByRecursion as All}
+use Rattle.std.specs.List.{flat_map, AllByRecursion}
 use Rattle.std.proofs.ByRecursion.{All-from_get_or}
 use Rattle.netlist.specs.declared.place.Netlist.{Netlist}
 use Rattle.calendar.specs.Agenda.{Agenda, at_tick, with_waiting, turn_after, unless, before_tick}
@@ -32,7 +32,7 @@ module _ (net : Netlist) where
       let few = net.nets in
       (omega (arith, good.a_below), omega (arith, good.b_below))
 
-  pub watched : All (λ n. n < 1024) (contents net).watches
+  pub watched : AllByRecursion (λ n. n < 1024) (contents net).watches
   watched = All-from_get_or (λ n. n < 1024) (contents net).watches 0 (λ i lt. omega (arith, (well_formed net).below i lt, net.nets))
 
 pub few_more : (r t at end w : ℕ) → r ≤ t * 1024 → end ≡ at + w → w ≤ 8 * 1024 → r + (end - at) / 8 ≤ (t + 1) * 1024

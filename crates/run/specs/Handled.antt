@@ -1,6 +1,6 @@
 -- Runs as their callers handle them, and the law that any two of them keep.
 use Rattle.std.specs.Prelude.{◌≡◌, ℕ, ◌+◌, ◌<◌, Bool, true, ◌↔◌, List, [], ◌∷◌, ◌++◌, length, take, is_ok, Ok, Err, Result}
-use Rattle.std.specs.List.{AllByRecursion as All}
+use Rattle.std.specs.List.{AllByRecursion}
 use Rattle.logic.specs.declared.family.Family.{Ghosts as Family}
 use Rattle.logic.specs.Logic.{RefinedBy}
 use Rattle.calendar.specs.declared.calendar.Calendar.{Ghosts as Calendar}
@@ -54,7 +54,7 @@ module _ {F C D V : Type 0} (f : Family F V) (c : Calendar C) (d : Calendar D) w
   pub record Law (r q : Life) (x : Run F C V f c) (y : Run F D V f d) (u v : List ℕ) : Type 0 where
     -- Equal traces tell equal levels: with one watch list, over equally many ticks.
     pub traces : r.board.watches ≡ q.board.watches → (reached f.logic r).ticks ≡ (reached f.logic q).ticks →
-        u ≡ v ↔ ((t : ℕ) → t < (reached f.logic r).ticks → All (λ n. net f.logic r n t ≡ net f.logic q n t) r.board.watches)
+        u ≡ v ↔ ((t : ℕ) → t < (reached f.logic r).ticks → AllByRecursion (λ n. net f.logic r n t ≡ net f.logic q n t) r.board.watches)
     -- Learning takes no definite level back: one netlist, at a tick that both complete.
     pub learning : (t : ℕ) → r.board ≡ q.board → t < (reached f.logic r).ticks → t < (reached f.logic q).ticks → Learns f.logic r q t →
         (n : ℕ) → Kept r q x y t n
