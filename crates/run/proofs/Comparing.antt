@@ -6,7 +6,7 @@ use Rattle.logic.specs.Logic.{Logic, Laws}
 use Rattle.calendar.specs.declared.calendar.Calendar.{Ghosts as Calendar}
 use Rattle.netlist.specs.Board.{Board}
 use Rattle.signal.specs.Calls.{State, level}
-use Rattle.signal.specs.Laws.{reached, net}
+use Rattle.signal.specs.Laws.{reached}
 use Rattle.signal.proofs.Handling.{handled}
 use Rattle.run.specs.declared.state.Run.{Run}
 use Rattle.run.specs.Calls.{Has}

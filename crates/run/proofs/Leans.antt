@@ -1,5 +1,5 @@
 -- What a calm run holds, as a tick that works only on what changed wants it.
-use Rattle.std.proofs.Common.{◌≡◌, ℕ, zero, suc, ◌+◌, ◌-◌, ◌<◌, ◌≤◌, Bool, true, List, length, get_or, sym, refl, ap, ◌∙◌, arith}
+use Rattle.std.proofs.Common.{◌≡◌, ℕ, zero, suc, ◌+◌, ◌-◌, ◌<◌, Bool, true, List, get_or, sym, ap, ◌∙◌, arith}
 use Rattle.netlist.specs.declared.place.Netlist.{Netlist}
 use Rattle.netlist.specs.Board.{Board}
 use Rattle.netlist.specs.Looked.{contents}
