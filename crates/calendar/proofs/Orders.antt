@@ -1,7 +1,7 @@
 -- Lists in order. Assumes nothing.
 use Rattle.std.proofs.Common.{◌≡◌, ℕ, zero, suc, ◌<◌, Bool, true, false, cond, List, [], ◌∷◌, length, get_or, set, sym, refl, ap, ◌∙◌, ⊎_elim, arith, length-set, get_or-set_other, get_or-set_same}
 use Rattle.std.specs.List.Sorted.{IsPermutation}
-use Rattle.std.specs.List.{swap, AllByRecursion as All}
+use Rattle.std.specs.List.{swap, AllByRecursion}
 use Rattle.std.proofs.lemmas.List.Sorted.{IsPermutation-keeps}
 use Rattle.std.proofs.lemmas.Bool.{both_ways, cases_eq}
 use Rattle.calendar.specs.Order.{Strict, placed, in_order}
@@ -20,20 +20,20 @@ module _ {X : Type 0} (lt : X → X → Bool) where
   length_in_order [] = refl
   length_in_order (x ∷ xs) = length_placed x (in_order lt xs) ∙ ap suc (length_in_order xs)
 
-  all_placed : (P : X → Type 0) (e : X) (xs : List X) → P e → All P xs → All P (placed lt e xs)
+  all_placed : (P : X → Type 0) (e : X) (xs : List X) → P e → AllByRecursion P xs → AllByRecursion P (placed lt e xs)
   all_placed P e [] p h = (p, tt)
-  all_placed P e (x ∷ xs) p h = elim (lt x e) as (λ b. All P (cond b (x ∷ placed lt e xs) (e ∷ x ∷ xs))) [ true ↦ (h.0, all_placed P e xs p h.1) | false ↦ (p, h) ]
+  all_placed P e (x ∷ xs) p h = elim (lt x e) as (λ b. AllByRecursion P (cond b (x ∷ placed lt e xs) (e ∷ x ∷ xs))) [ true ↦ (h.0, all_placed P e xs p h.1) | false ↦ (p, h) ]
 
-  pub all_in_order : (P : X → Type 0) (xs : List X) → All P xs → All P (in_order lt xs)
+  pub all_in_order : (P : X → Type 0) (xs : List X) → AllByRecursion P xs → AllByRecursion P (in_order lt xs)
   all_in_order P [] h = tt
   all_in_order P (x ∷ xs) h = all_placed P x (in_order lt xs) h.0 (all_in_order P xs h.1)
 
   -- what nothing comes before stands first
-  placed_first : (e : X) (xs : List X) → All (λ x. lt x e ≡ false) xs → placed lt e xs ≡ e ∷ xs
+  placed_first : (e : X) (xs : List X) → AllByRecursion (λ x. lt x e ≡ false) xs → placed lt e xs ≡ e ∷ xs
   placed_first e [] h = refl
   placed_first e (x ∷ xs) h = ap (λ b. cond b (x ∷ placed lt e xs) (e ∷ x ∷ xs)) h.0
 
-  pub first_in_order : (e : X) (xs : List X) → All (λ x. lt x e ≡ false) xs → in_order lt (e ∷ xs) ≡ e ∷ in_order lt xs
+  pub first_in_order : (e : X) (xs : List X) → AllByRecursion (λ x. lt x e ≡ false) xs → in_order lt (e ∷ xs) ≡ e ∷ in_order lt xs
   first_in_order e xs h = placed_first e (in_order lt xs) (all_in_order (λ x. lt x e ≡ false) xs h)
 
   module _ (o : Strict lt) where

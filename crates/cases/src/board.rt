@@ -1,4 +1,4 @@
-// WellFormed boards: loops, several drivers a net, tri-states, pulls, and ports that gates drive too.
+// Well-formed boards: loops, several drivers a net, tri-states, pulls, and ports that gates drive too.
 use crate::random::Random;
 use std::alloc::{AllocError, Global};
 
@@ -190,7 +190,7 @@ pub fn restless(heap: Global) -> Result<Board, AllocError> {
     })
 }
 
-// A well_formed board.
+// A well-formed board.
 pub fn made(heap: Global, random: &mut Random) -> Result<Board, AllocError> {
     let style = any_style(random);
     let nets = size(random);

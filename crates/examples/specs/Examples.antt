@@ -1,5 +1,5 @@
 -- The worked examples of the bench as one table of the definitions: a row is a field, and computing shows it.
-use Rattle.std.specs.Prelude.{◌≡◌, true, List, [], ◌∷◌, map}
+use Rattle.std.specs.Prelude.{◌≡◌, true, [], ◌∷◌, map}
 use Rattle.calendar.specs.Agenda.{entry}
 use Rattle.netlist.specs.Board.{encoded}
 use Rattle.nine_values.specs.Nines.{nines}

@@ -1,7 +1,7 @@
 -- What a push and a pop make of a pile. Assumes nothing.
 use Rattle.std.proofs.Common.{◌≡◌, ℕ, zero, suc, ◌+◌, ◌-◌, ◌/◌, ◌<◌, ◌≤◌, Bool, false, List, [], ◌∷◌, ◌++◌, length, get_or, take, drop, set, sym, refl, ap, ◌∙◌, subst, ⊎_elim, arith, length-set, length-take, length-take-le, get_or-drop, get_or-set_other, get_or-take}
 use Rattle.std.specs.List.Sorted.{IsPermutation}
-use Rattle.std.specs.List.{AllByRecursion as All}
+use Rattle.std.specs.List.{AllByRecursion}
 use Rattle.std.proofs.ByRecursion.{All-from_get_or}
 use Rattle.std.proofs.lemmas.List.{take_at, take_more, take_more_set, get_or_append_left, get_or-append_right}
 use Rattle.std.proofs.lemmas.List.Sorted.{IsPermutation-to_front, length_permutation}
@@ -72,7 +72,7 @@ module _ {X : Type 0} (lt : X → X → Bool) where
     pub popped_length : (ys : List X) → IsPermutation (take m ws) ys → length ys ≡ l
     popped_length ys s = length_permutation _ ys s ∙ ap (λ k. length (take k ws)) is-l ∙ pop_length
 
-    first_of : (d : X) → Heaped lt xs 0 n → All (λ y. lt y (get_or xs 0 d) ≡ false) (take l ws)
+    first_of : (d : X) → Heaped lt xs 0 n → AllByRecursion (λ y. lt y (get_or xs 0 d) ≡ false) (take l ws)
     first_of d h = All-from_get_or (λ y. lt y (get_or xs 0 d) ≡ false) (take l ws) d (λ i f.
         let short : length (take l ws) ≡ l = pop_length in
         ap (λ z. lt z (get_or xs 0 d)) (get_or-take l ws i d (omega arith)) ∙ ⊎_elim

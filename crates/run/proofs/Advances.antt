@@ -31,12 +31,12 @@ module _ {F D V : Type 0} (f : Family F V) (c : Calendar D) (C : Board) (s : Sta
   first m = flat_map (changes_at f.logic C s) (range_with_len s.ticks m)
 
   -- an advance that has completed some ticks, in the middle
-  pub record Going (done end : ℕ) (out : List ℕ) (x : Run F D V) : Type 0 where
+  pub record Going (done end : ℕ) (out : List ℕ) (x : Run F D V f c) : Type 0 where
     pub at : At f c C s (s.ticks + done) (length s.changes + length (first done)) x
     pub wrote : Wrote old 0 (flat_map change_bytes (first done)) end out
     pub left : completes f.logic C s k s.ticks (length old) ≡ done + completes f.logic C s (k - done) (s.ticks + done) (length old - end)
 
-  pub going_none : (x : Run F D V) → Has f c C s x → Going 0 0 old x
+  pub going_none : (x : Run F D V f c) → Has f c C s x → Going 0 0 old x
   going_none x h = record {
     at = subst (λ t. At f c C s t (length s.changes + 0) x) (sym (add-zero s.ticks)) (subst (λ n. At f c C s s.ticks n x) (sym (add-zero (length s.changes))) h);
     wrote = wrote_none old 0;
@@ -46,7 +46,7 @@ module _ {F D V : Type 0} (f : Family F V) (c : Calendar D) (C : Board) (s : Sta
       z : (n : ℕ) → n ≡ n - 0
       z n = omega arith
 
-  pub going_more : (done end end' : ℕ) (out out' : List ℕ) (x y : Run F D V) → done < k → end ≤ length old → tick_room f.logic C ≤ length old - end → Going done end out x →
+  pub going_more : (done end end' : ℕ) (out out' : List ℕ) (x y : Run F D V f c) → done < k → end ≤ length old → tick_room f.logic C ≤ length old - end → Going done end out x →
       At f c C s (s.ticks + done + 1) (length s.changes + length (first done) + length (changes_at f.logic C s (s.ticks + done))) y →
       Wrote out end (flat_map change_bytes (changes_at f.logic C s (s.ticks + done))) end' out' → Going (done + 1) end' out' y
   going_more done end end' out out' x y lt in' room g at' w =
@@ -71,7 +71,7 @@ module _ {F D V : Type 0} (f : Family F V) (c : Calendar D) (C : Board) (s : Sta
       shift a b = omega arith
 
   -- what has no more ticks to complete
-  pub gone : (done end : ℕ) (out : List ℕ) (x : Run F D V) → completes f.logic C s (k - done) (s.ticks + done) (length old - end) ≡ 0 → Going done end out x →
+  pub gone : (done end : ℕ) (out : List ℕ) (x : Run F D V f c) → completes f.logic C s (k - done) (s.ticks + done) (length old - end) ≡ 0 → Going done end out x →
       Has f c C (leaves f.logic C s (advance k (length old))) x × (advanced done (take end out) ≡ answers f.logic C s (advance k (length old))) × (drop end out ≡ drop end old)
   gone done end out x none g =
       let L = f.logic in
@@ -117,6 +117,6 @@ module _ {F D V : Type 0} (f : Family F V) (c : Calendar D) (C : Board) (s : Sta
       waiting_same zero = refl
       waiting_same (suc t) = refl
 
-module _ {F D V : Type 0} (f : Family F V) (c : Calendar D) (C : Board) (s : State V) (x : Run F D V) (h : Has f c C s x) where
+module _ {F D V : Type 0} (f : Family F V) (c : Calendar D) (C : Board) (s : State V) (x : Run F D V f c) (h : Has f c C s x) where
   pub room_is : tick_room f.logic C ≡ 8 * x.wiring.net.head.watches
   room_is = ap (λ n. 8 * n) (sym (ap (λ (B : Board). length B.watches) h.board) ∙ watch_count x.wiring.net)

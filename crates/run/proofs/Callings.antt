@@ -1,5 +1,5 @@
 -- How a run goes on over a call.
-use Rattle.std.proofs.Common.{◌≡◌, ℕ, zero, suc, ◌+◌, ◌-◌, ◌<◌, Bool, true, false, cond, not, ◌&&◌, eqb, ltb, leb, ◌≢◌, List, [], ◌∷◌, length, get_or, set, is_some, Some, None, Ok, Err, Option, Result, sym, refl, ap, ◌∙◌, subst, ⊎_elim, arith, length-set, get_or-set_other, get_or-set_same}
+use Rattle.std.proofs.Common.{◌≡◌, ℕ, zero, suc, ◌+◌, ◌-◌, ◌<◌, Bool, true, false, cond, not, ◌&&◌, eqb, ltb, leb, List, [], ◌∷◌, length, get_or, set, is_some, Some, None, Ok, Err, Option, Result, sym, refl, ap, ◌∙◌, subst, ⊎_elim, arith, length-set, get_or-set_other, get_or-set_same}
 use Rattle.std.proofs.lemmas.Bool.{cases_eq, eq-eqb, ne_eqb, le-leb, lt-leb, and_from, and_left, and_right, cond-true, cond-false, false≢true}
 use Rattle.netlist.specs.declared.place.Netlist.{Netlist}
 use Rattle.calendar.specs.Agenda.{Agenda}
@@ -26,7 +26,7 @@ first_on b n cs e = ap (λ c. first_of ((c, n) ∷ cs)) e
 pub first_off : (b : Bool) (n : ℕ) (cs : List (Bool × ℕ)) → b ≡ false → first_of ((b, n) ∷ cs) ≡ first_of cs
 first_off b n cs e = ap (λ c. first_of ((c, n) ∷ cs)) e
 
-module _ {F D V : Type 0} (f : Family F V) (c : Calendar D) (C : Board) (s : State V) (x : Run F D V) (h : Has f c C s x) where
+module _ {F D V : Type 0} (f : Family F V) (c : Calendar D) (C : Board) (s : State V) (x : Run F D V f c) (h : Has f c C s x) where
   fit_off : x.fit ≡ false → not s.fit ≡ true
   fit_off e = ap not (sym h.fits.fit_is ∙ e)
 
@@ -36,7 +36,7 @@ module _ {F D V : Type 0} (f : Family F V) (c : Calendar D) (C : Board) (s : Sta
     ap (refused k) h.fits.ticks_are ∙ sym (ap (λ o. elim o [ Some fault ↦ refused fault s.ticks | None ↦ answers f.logic C s call ]) e),
   )
 
-  pub accepts : (call : Call) (y : Run F D V) → refusal f.logic C s call ≡ None → Has f c C (leaves f.logic C s call) y → Has f c C (after f.logic C s call) y × (answers f.logic C s call ≡ answer f.logic C s call)
+  pub accepts : (call : Call) (y : Run F D V f c) → refusal f.logic C s call ≡ None → Has f c C (leaves f.logic C s call) y → Has f c C (after f.logic C s call) y × (answers f.logic C s call ≡ answer f.logic C s call)
   accepts call y e k = (
     subst (λ o. Has f c C (elim o [ Some fault ↦ s | None ↦ leaves f.logic C s call ]) y) (sym e) k,
     sym (ap (λ o. elim o [ Some fault ↦ refused fault s.ticks | None ↦ answers f.logic C s call ]) e),
@@ -89,7 +89,7 @@ is_valued None t v is = absurd (never v (NoSuchCode t) (sym is))
 
 -- ---- a refused call
 
-module _ {F D V : Type 0} (f : Family F V) (c : Calendar D) (x : Run F D V) (e : RunFault) (at : place e ≡ x.ticks) where
+module _ {F D V : Type 0} (f : Family F V) (c : Calendar D) (x : Run F D V f c) (e : RunFault) (at : place e ≡ x.ticks) where
   pub call_refused : (call : Call) → ((C : Board) (s : State V) → Has f c C s x → refusal f.logic C s call ≡ Some (number e)) → Called f c call x x (refused (number e) (place e))
   call_refused call is C s h =
       let r = refuses f c C s x h call (number e) (is C s h) in
@@ -111,7 +111,7 @@ before_is L C s n (suc t) ne = ap (level L C s n) (less t)
     less : (t : ℕ) → t ≡ suc t - 1
     less t = omega arith
 
-module _ {F D V : Type 0} (f : Family F V) (c : Calendar D) (C : Board) (s : State V) (x : Run F D V) (h : Has f c C s x) where
+module _ {F D V : Type 0} (f : Family F V) (c : Calendar D) (C : Board) (s : State V) (x : Run F D V f c) (h : Has f c C s x) where
   pub read_level : (n : ℕ) → n < 1024 → (s.ticks ≡ 0 → ⊥) → get_or x.levels n f.logic.unset ≡ level f.logic C s n (s.ticks - 1)
   read_level n lt ne =
       h.fits.held.levels_are n lt ∙ before_is f.logic (contents x.wiring.net) s n s.ticks ne ∙ ap (λ (B : Board). level f.logic B s n (s.ticks - 1)) h.board

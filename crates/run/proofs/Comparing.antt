@@ -6,7 +6,7 @@ use Rattle.logic.specs.Logic.{Logic, Laws}
 use Rattle.calendar.specs.declared.calendar.Calendar.{Ghosts as Calendar}
 use Rattle.netlist.specs.Board.{Board}
 use Rattle.signal.specs.Calls.{State, level}
-use Rattle.signal.specs.Laws.{reached, net}
+use Rattle.signal.specs.Laws.{reached}
 use Rattle.signal.proofs.Handling.{handled}
 use Rattle.run.specs.declared.state.Run.{Run}
 use Rattle.run.specs.Calls.{Has}
@@ -54,7 +54,7 @@ agree L v w same = by (L.definite v) same
     by true same = ap not (eq-eqb (L.code v) (L.code w) (ap L.code (sym (same refl))))
     by false same = refl
 
-module _ {F C D V : Type 0} (f : Family F V) (c : Calendar C) (d : Calendar D) (x : Run F C V) (y : Run F D V) where
+module _ {F C D V : Type 0} (f : Family F V) (c : Calendar C) (d : Calendar D) (x : Run F C V f c) (y : Run F D V f d) where
   -- what the two runs show at net n
   abbrev shown : (B B' : Board) (s s' : State V) → ℕ → Bool
   shown B B' s s' n = contradicts f.logic (level f.logic B s n (s.ticks - 1)) (level f.logic B' s' n (s'.ticks - 1))

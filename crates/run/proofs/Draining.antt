@@ -1,6 +1,6 @@
 -- Once the entries of a tick are taken, every gate drives its level of that tick.
 use Rattle.std.proofs.Common.{◌≡◌, ℕ, zero, suc, ◌+◌, ◌-◌, ◌<◌, ◌≤◌, Bool, true, false, cond, not, ◌&&◌, eqb, leb, List, [], ◌∷◌, ◌++◌, length, get_or, set, sym, refl, ap, ◌∙◌, ⊎_elim, add-one, arith, length-set, get_or-set_other, get_or-set_same}
-use Rattle.std.specs.List.{range_with_len, flat_map, AllByRecursion as All}
+use Rattle.std.specs.List.{range_with_len, flat_map, AllByRecursion}
 use Rattle.std.proofs.lemmas.Bool.{cases_eq, eq-eqb, ne_eqb, le-ltb, le-leb, eqb-true, not-false}
 use Rattle.calendar.specs.declared.entry.Entry.{Entry}
 use Rattle.calendar.specs.Agenda.{before_tick}
@@ -14,15 +14,15 @@ use Rattle.tick.specs.Due.{applied, left_over, levelled}
 use Rattle.run.specs.Fits.{waiting_at}
 
 module _ {V : Type 0} {L : Logic V} (laws : Laws L) (t : ℕ) where
-  later_left : (w : List Entry) → All (λ (x : Entry). t < x.tick) w → left_over t w ≡ w
+  later_left : (w : List Entry) → AllByRecursion (λ (x : Entry). t < x.tick) w → left_over t w ≡ w
   later_left [] h = refl
   later_left (x ∷ w) h = ap (λ b. cond b (left_over t w) (x ∷ w)) (ne_eqb x.tick t (λ e. omega (arith, h.0)))
 
-  later_applied : (ls : List V) (w : List Entry) → All (λ (x : Entry). t < x.tick) w → applied L t ls w ≡ ls
+  later_applied : (ls : List V) (w : List Entry) → AllByRecursion (λ (x : Entry). t < x.tick) w → applied L t ls w ≡ ls
   later_applied ls [] h = refl
   later_applied ls (x ∷ w) h = ap (λ b. cond b (applied L t (levelled (L.of_code x.code) x.gate ls) w) ls) (ne_eqb x.tick t (λ e. omega (arith, h.0)))
 
-  module _ (now was : ℕ → V) (b : ℕ → Bool) (rest : List Entry) (later : All (λ (x : Entry). t < x.tick) rest) where
+  module _ (now was : ℕ → V) (b : ℕ → Bool) (rest : List Entry) (later : AllByRecursion (λ (x : Entry). t < x.tick) rest) where
     abbrev at : ℕ → Entry
     at g = record { tick = t; gate = g; code = L.code (now g) }
 
@@ -83,10 +83,10 @@ module _ {V : Type 0} {L : Logic V} (laws : Laws L) (t : ℕ) where
         by false e ih jh = jh e
 
 module _ {V : Type 0} {L : Logic V} (laws : Laws L) (C : Board) (ok : WellFormed C) (s : State V) where
-  pub due_ahead : (t i : ℕ) → All (λ (x : Entry). t < x.tick) (planned L C s t i)
+  pub due_ahead : (t i : ℕ) → AllByRecursion (λ (x : Entry). t < x.tick) (planned L C s t i)
   due_ahead t i = all_both (λ (x : Entry). (t < x.tick) × (x.tick ≤ t + 64) × (x.gate < gate_count C)) (λ (x : Entry). (t < x.tick) × (x.tick ≤ t + 64) × (x.gate < gate_count C)) (λ (x : Entry). t < x.tick) (λ x h k. h.0) (planned L C s t i) (planned_due L C s t i) (planned_due L C s t i)
 
-  none_before : (u : ℕ) (w : List Entry) → All (λ (x : Entry). u < x.tick) w → before_tick w (suc u) ≡ false
+  none_before : (u : ℕ) (w : List Entry) → AllByRecursion (λ (x : Entry). u < x.tick) w → before_tick w (suc u) ≡ false
   none_before u [] h = refl
   none_before u (x ∷ w) h = le-ltb x.tick (suc u) (omega (arith, h.0))
 

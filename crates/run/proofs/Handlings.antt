@@ -1,5 +1,5 @@
 -- The law of runs: a handled run keeps the contract of every call, so the laws of any two runs are laws of these.
-use Rattle.std.proofs.Common.{◌≡◌, ℕ, ◌+◌, Bool, true, false, cond, eqb, List, [], ◌∷◌, ◌++◌, length, is_ok, Ok, Err, Result, sym, refl, ap, ◌∙◌, append-nil, arith}
+use Rattle.std.proofs.Common.{◌≡◌, ℕ, Bool, true, cond, eqb, List, [], ◌∷◌, ◌++◌, length, is_ok, Ok, Err, Result, sym, refl, ap, ◌∙◌, append-nil, arith}
 use Rattle.std.specs.List.{flat_map}
 use Rattle.std.proofs.lemmas.Bool.{false≢true}
 use Rattle.logic.specs.declared.family.Family.{Ghosts as Family}
@@ -7,7 +7,7 @@ use Rattle.logic.specs.Logic.{Laws}
 use Rattle.calendar.specs.declared.calendar.Calendar.{Ghosts as Calendar}
 use Rattle.netlist.specs.Board.{Board}
 use Rattle.signal.specs.Calls.{Call, Answer, wake, drive, advance, read, shows, refused, wrote}
-use Rattle.signal.specs.Handled.{Handled as Any, opens as any-opens, calls as any-calls}
+use Rattle.signal.specs.Handled.{Handled as AnyHandled, opens as any_opens, calls as any_calls}
 use Rattle.signal.proofs.Theorems.{three_laws}
 use Rattle.signal.proofs.Handling.{any_two_runs}
 use Rattle.signal.proofs.Rows.{joined_append}
@@ -83,23 +83,23 @@ quiet us a u e is = more us a u [] e is ∙ append-nil u
 -- ---- a handled run is one of any make
 
 module _ {F C V : Type 0} (f : Family F V) (c : Calendar C) where
-  pub of_any_make : {B : Board} {fit : Bool} {cs : List Call} {x : Run F C V} {u : List ℕ} → Handled f c B fit cs x u →
-      (us : List Answer) × (Any f.logic (Has f c) B fit cs x us × (flat_map wrote us ≡ u))
-  of_any_make (opens board calendar o) = ([], (any-opens o, refl))
+  pub of_any_make : {B : Board} {fit : Bool} {cs : List Call} {x : Run F C V f c} {u : List ℕ} → Handled f c B fit cs x u →
+      (us : List Answer) × (AnyHandled f.logic (Has f c) B fit cs x us × (flat_map wrote us ≡ u))
+  of_any_make (opens board calendar o) = ([], (any_opens o, refl))
   of_any_make (wakes {B = B} {u = u} past g k y r w) =
       let was = of_any_make past in
-      (was.0 ++ (told r ∷ []), (any-calls was.1.0 (wake g k) y (told r) (w.called B), quiet was.0 (told r) u was.1.1 (no_bytes r)))
+      (was.0 ++ (told r ∷ []), (any_calls was.1.0 (wake g k) y (told r) (w.called B), quiet was.0 (told r) u was.1.1 (no_bytes r)))
   of_any_make (drives {B = B} {u = u} past p k y r w) =
       let was = of_any_make past in
-      (was.0 ++ (told r ∷ []), (any-calls was.1.0 (drive p k) y (told r) (w.called B), quiet was.0 (told r) u was.1.1 (no_bytes r)))
+      (was.0 ++ (told r ∷ []), (any_calls was.1.0 (drive p k) y (told r) (w.called B), quiet was.0 (told r) u was.1.1 (no_bytes r)))
   of_any_make (advances {B = B} {u = u} past k out y out' r w) =
       let was = of_any_make past in (
         was.0 ++ (told_trace r out' ∷ []),
-        (any-calls was.1.0 (advance k (length out)) y (told_trace r out') (w.called B), more was.0 (told_trace r out') u (added r out') was.1.1 (bytes_added r out')),
+        (any_calls was.1.0 (advance k (length out)) y (told_trace r out') (w.called B), more was.0 (told_trace r out') u (added r out') was.1.1 (bytes_added r out')),
       )
   of_any_make (reads {B = B} {x = x} {u = u} past n r w) =
       let was = of_any_make past in
-      (was.0 ++ (told_level r ∷ []), (any-calls was.1.0 (read n) x (told_level r) (w B), quiet was.0 (told_level r) u was.1.1 (no_level_bytes r)))
+      (was.0 ++ (told_level r ∷ []), (any_calls was.1.0 (read n) x (told_level r) (w B), quiet was.0 (told_level r) u was.1.1 (no_level_bytes r)))
 
 module _ {F C D V : Type 0} (f : Family F V) (laws : Laws f.logic) (c : Calendar C) (d : Calendar D) where
   pub law_of_runs : LawOfRuns f c d

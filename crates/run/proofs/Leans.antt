@@ -1,5 +1,5 @@
 -- What a calm run holds, as a tick that works only on what changed wants it.
-use Rattle.std.proofs.Common.{◌≡◌, ℕ, zero, suc, ◌+◌, ◌-◌, ◌<◌, ◌≤◌, Bool, true, List, length, get_or, sym, refl, ap, ◌∙◌, arith}
+use Rattle.std.proofs.Common.{◌≡◌, ℕ, zero, suc, ◌+◌, ◌-◌, ◌<◌, Bool, true, List, get_or, sym, ap, ◌∙◌, arith}
 use Rattle.netlist.specs.declared.place.Netlist.{Netlist}
 use Rattle.netlist.specs.Board.{Board}
 use Rattle.netlist.specs.Looked.{contents}
@@ -11,7 +11,7 @@ use Rattle.signal.specs.Circuit.{gate, gate_count}
 use Rattle.signal.specs.Signal.{resolved}
 use Rattle.signal.specs.Calls.{State, drives, level, level_before}
 use Rattle.tick.specs.Settled.{drivers_of}
-use Rattle.tick.specs.Plans.{result}
+use Rattle.tick.specs.Plans.{result_at}
 use Rattle.run.specs.Fits.{Fits}
 use Rattle.run.proofs.Settling.{settled}
 use Rattle.run.proofs.Plannings.{results}
@@ -38,7 +38,7 @@ module _ {V : Type 0} (L : Logic V) (net : Netlist) (s : State V) (t n : ℕ)
   was_resolved k lt = levels_were k lt ∙ sym (settled L C s (t - 1) ports drive (f.calm_is still).still f.held.drives_are k)
 
   -- every gate has planned what it gives
-  had_planned : (g : ℕ) → g < gate_count C → get_or plan g L.unset ≡ result L C levels g
+  had_planned : (g : ℕ) → g < gate_count C → get_or plan g L.unset ≡ result_at L C levels g
   had_planned g lt =
       f.held.planned_are g lt ∙ ap (drives L C s g) (shift t (gate C g).delay (f.calm_is still).some)
       ∙ sym (results L C (well_formed net) s (t - 1) levels (inputs net) levels_were g lt)

@@ -1,6 +1,6 @@
 -- What the calendar holds once every gate has planned.
 use Rattle.std.proofs.Common.{◌≡◌, ℕ, zero, suc, ◌+◌, ◌-◌, ◌<◌, ◌≤◌, Bool, true, false, cond, ◌&&◌, ◌||◌, eqb, List, [], ◌∷◌, get_or, None, sum_by, sym, refl, ap, ◌∙◌, add-one, arith}
-use Rattle.std.specs.List.{AllByRecursion as All}
+use Rattle.std.specs.List.{AllByRecursion}
 use Rattle.std.proofs.lemmas.Bool.{eqb-true, eqb-false}
 use Rattle.std.proofs.lemmas.Bool.Decides.{nat_tests}
 use Rattle.calendar.specs.declared.entry.Entry.{Entry}
@@ -13,9 +13,9 @@ use Rattle.signal.specs.Circuit.{gate, gate_count, operate}
 use Rattle.signal.specs.Calls.{State, drives, level}
 use Rattle.signal.proofs.Signals.{d_after}
 use Rattle.signal.proofs.Planning.{planned, planned_same, planned_more, planned_free, planned_room}
-use Rattle.tick.specs.Plans.{result, plans, put_changed}
+use Rattle.tick.specs.Plans.{result_at, plans, put_changed}
 
-free_alone : (e : Entry) (w : List Entry) → All (λ (x : Entry). x.tick ≡ e.tick → x.gate ≡ e.gate → ⊥) w → waits e w ≡ false
+free_alone : (e : Entry) (w : List Entry) → AllByRecursion (λ (x : Entry). x.tick ≡ e.tick → x.gate ≡ e.gate → ⊥) w → waits e w ≡ false
 free_alone e [] h = refl
 free_alone e (x ∷ w) h = apart e.tick e.gate x.tick x.gate (waits e w) h.0 (free_alone e w h.1)
   where
@@ -25,7 +25,7 @@ free_alone e (x ∷ w) h = apart e.tick e.gate x.tick x.gate (waits e w) h.0 (fr
 module _ {V : Type 0} (L : Logic V) (C : Board) (ok : WellFormed C) (s : State V) (t : ℕ) (levels : List V) where
   -- what a gate gives is what it drives a delay on
   pub results : ((g : ℕ) → g < gate_count C → ((gate C g).a < 1024) × ((gate C g).b < 1024)) → ((n : ℕ) → n < 1024 → get_or levels n L.unset ≡ level L C s n t) →
-      (g : ℕ) → g < gate_count C → result L C levels g ≡ drives L C s g (t + (gate C g).delay)
+      (g : ℕ) → g < gate_count C → result_at L C levels g ≡ drives L C s g (t + (gate C g).delay)
   results inside are g lt =
       let d = (gate C g).delay in
       let back : t + d - d ≡ t = omega arith in
@@ -33,7 +33,7 @@ module _ {V : Type 0} (L : Logic V) (C : Board) (ok : WellFormed C) (s : State V
       ∙ sym (d_after L C s.start s.port g (t + d) (ok.good g lt).delay_low (omega arith))
 
   module _ (was : List V) (a : Agenda)
-      (results-are : (g : ℕ) → g < gate_count C → result L C levels g ≡ drives L C s g (t + (gate C g).delay))
+      (results-are : (g : ℕ) → g < gate_count C → result_at L C levels g ≡ drives L C s g (t + (gate C g).delay))
       (was-are : (g : ℕ) → g < gate_count C → get_or was g L.unset ≡ drives L C s g (t + (gate C g).delay - 1))
       (today : a.today ≡ t) (gates : gate_count C ≤ a.gates) (room : sum_by (λ g. g.delay) C.gates ≤ a.capacity) where
     one : (i : ℕ) → i < gate_count C →

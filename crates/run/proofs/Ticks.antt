@@ -1,7 +1,7 @@
 -- One tick more.
 use Rattle.std.proofs.Common.{◌≡◌, ℕ, ◌+◌, ◌-◌, ◌*◌, ◌/◌, ◌<◌, ◌≤◌, Bool, true, cond, List, [], length, get_or, sum_by, sym, refl, ap, ◌∙◌, subst, add-one, arith}
 use Rattle.std.proofs.lemmas.Bool.{le-leb}
-use Rattle.std.specs.List.{flat_map, AllByRecursion as All}
+use Rattle.std.specs.List.{flat_map, AllByRecursion}
 use Rattle.std.proofs.ByRecursion.{All-from_get_or}
 use Rattle.netlist.specs.declared.place.Netlist.{Netlist}
 use Rattle.calendar.specs.Agenda.{Agenda, at_tick, with_waiting, turn_after, unless, before_tick}
@@ -17,7 +17,7 @@ use Rattle.netlist.specs.Looked.{contents}
 use Rattle.tick.specs.Due.{applied, left_over}
 use Rattle.tick.specs.Settled.{drivers_of}
 use Rattle.tick.specs.Reported.{changed, with_room}
-use Rattle.tick.specs.Plans.{result, plans}
+use Rattle.tick.specs.Plans.{result_at, plans}
 use Rattle.tick.specs.Laid.{Wrote}
 use Rattle.netlist.proofs.Contents.{gate_count as gates-count, watch_count, well_formed}
 use Rattle.run.specs.Fits.{Kept, Fits, waiting_at}
@@ -32,7 +32,7 @@ module _ (net : Netlist) where
       let few = net.nets in
       (omega (arith, good.a_below), omega (arith, good.b_below))
 
-  pub watched : All (λ n. n < 1024) (contents net).watches
+  pub watched : AllByRecursion (λ n. n < 1024) (contents net).watches
   watched = All-from_get_or (λ n. n < 1024) (contents net).watches 0 (λ i lt. omega (arith, (well_formed net).below i lt, net.nets))
 
 pub few_more : (r t at end w : ℕ) → r ≤ t * 1024 → end ≡ at + w → w ≤ 8 * 1024 → r + (end - at) / 8 ≤ (t + 1) * 1024
@@ -59,7 +59,7 @@ module _ {V : Type 0} {L : Logic V} (laws : Laws L) (net : Netlist) (s : State V
     (resolves : (k : ℕ) → k < 1024 → get_or levels₁ k L.unset ≡ resolved L (drivers_of L (contents net) ports drive₁ k))
     (wrote : Wrote out at (flat_map change_bytes (changed L (contents net) levels levels₁ ticks)) end out₁)
     (plan-long : length plan₁ ≡ length plan)
-    (plan-set : (g : ℕ) → g < net.head.gates → get_or plan₁ g L.unset ≡ result L (contents net) levels₁ g)
+    (plan-set : (g : ℕ) → g < net.head.gates → get_or plan₁ g L.unset ≡ result_at L (contents net) levels₁ g)
     (put : a₃ ≡ plans L (contents net) levels₁ plan ticks net.head.gates a₂) where
   abbrev C : Board
   C = contents net
@@ -94,7 +94,7 @@ module _ {V : Type 0} {L : Logic V} (laws : Laws L) (net : Netlist) (s : State V
   change : changed L C levels levels₁ t ≡ changes_at L C s t
   change = reported L C s t levels levels₁ f.held.levels_are levels_now (watched net)
 
-  results_now : (g : ℕ) → g < gate_count C → result L C levels₁ g ≡ drives L C s g (t + (gate C g).delay)
+  results_now : (g : ℕ) → g < gate_count C → result_at L C levels₁ g ≡ drives L C s g (t + (gate C g).delay)
   results_now = results L C (well_formed net) s t levels₁ (inputs net) levels_now
 
   A₃ : a₃ ≡ with_waiting (at_tick a t) (planned L C s t (gate_count C))

@@ -14,7 +14,7 @@ use Rattle.run.specs.declared.state.Run.{Run}
 use Rattle.run.specs.Fits.{waiting_at}
 use Rattle.run.specs.Calls.{Has, OnTime}
 
-pub on_time : {F D V : Type 0} (f : Family F V) (c : Calendar D) (laws : Laws f.logic) (C : Board) (s : State V) (x : Run F D V) → Has f c C s x → s.fit ≡ true →
+pub on_time : {F D V : Type 0} (f : Family F V) (c : Calendar D) (laws : Laws f.logic) (C : Board) (s : State V) (x : Run F D V f c) → Has f c C s x → s.fit ≡ true →
     OnTime f c C s (c.meaning x.calendar)
 on_time f c laws C s x h on =
     let L = f.logic in

@@ -1,5 +1,5 @@
 -- What each call of a run promises, over the run itself.
-use Rattle.std.specs.Prelude.{◌≡◌, ℕ, ◌+◌, ◌-◌, ◌≤◌, Bool, true, false, cond, ◌&&◌, ◌↔◌, List, [], ◌∷◌, length, take, drop, Some, None, Ok, Err, Option, Result, ◌==◌, nat_le}
+use Rattle.std.specs.Prelude.{◌≡◌, ℕ, ◌+◌, ◌≤◌, Bool, true, false, cond, ◌&&◌, ◌↔◌, List, [], ◌∷◌, length, take, drop, Some, None, Ok, Err, Option, Result, ◌==◌, nat_le}
 use Rattle.std.specs.List.{flat_map, ContainsAt as List-has}
 use Rattle.logic.specs.declared.family.Family.{Ghosts as Family}
 use Rattle.calendar.specs.declared.calendar.Calendar.{Ghosts as Calendar}
@@ -60,36 +60,36 @@ fit_for C a = a.today == 0 && (empty a.waiting && (nat_le (gate_count C) a.gates
 
 module _ {F D V : Type 0} (f : Family F V) (c : Calendar D) where
   -- the run x, opened on the board C, has the state s, has gone on to t ticks, and written n records
-  pub record At (C : Board) (s : State V) (t n : ℕ) (x : Run F D V) : Type 0 where
+  pub record At (C : Board) (s : State V) (t n : ℕ) (x : Run F D V f c) : Type 0 where
     pub board : contents x.wiring.net ≡ C
     pub fits : Fits f.logic (contents x.wiring.net) s t n (c.meaning x.calendar) x.fit x.calm x.ports x.drives x.planned x.levels x.ticks x.records
 
-  abbrev pub Has : Board → State V → Run F D V → Type 0
+  abbrev pub Has : Board → State V → Run F D V f c → Type 0
   Has C s x = At C s s.ticks (length s.changes) x
 
-  abbrev pub Ticked : Run F D V → List ℕ → ℕ → Run F D V → List ℕ → ℕ → Type 0
+  abbrev pub Ticked : Run F D V f c → List ℕ → ℕ → Run F D V f c → List ℕ → ℕ → Type 0
   Ticked x out at y out' end =
       (C : Board) (s : State V) (t n : ℕ) → s.fit ≡ true → At C s t n x →
       At C s (t + 1) (n + length (changes_at f.logic C s t)) y × Wrote out at (flat_map change_bytes (changes_at f.logic C s t)) end out'
 
-  abbrev pub Opened : Netlist → D → Run F D V → Type 0
+  abbrev pub Opened : Netlist → D → Run F D V f c → Type 0
   Opened net cal y = Has (contents net) (opened f.logic (fit_for (contents net) (c.meaning cal))) y
 
   -- the contract of every call that answers a
-  abbrev pub Called : Call → Run F D V → Run F D V → Answer → Type 0
+  abbrev pub Called : Call → Run F D V f c → Run F D V f c → Answer → Type 0
   Called call x y a = (C : Board) (s : State V) → Has C s x → Has C (after f.logic C s call) y × (a ≡ answer f.logic C s call)
 
   -- wake, drive, advance and read: what they answer and leave, for every state that the run has come to;
   -- and whatever run it is, a refusal leaves the run, its calendar and the buffer exactly as they were
-  pub record Waked (x : Run F D V) (g k : ℕ) (y : Run F D V) (r : Result (Unit {0}) RunFault) : Type 0 where
+  pub record Waked (x : Run F D V f c) (g k : ℕ) (y : Run F D V f c) (r : Result (Unit {0}) RunFault) : Type 0 where
     pub called : Called (wake g k) x y (told r)
     pub unchanged : (e : RunFault) → r ≡ Err e → y ≡ x
 
-  pub record Driven (x : Run F D V) (p k : ℕ) (y : Run F D V) (r : Result (Unit {0}) RunFault) : Type 0 where
+  pub record Driven (x : Run F D V f c) (p k : ℕ) (y : Run F D V f c) (r : Result (Unit {0}) RunFault) : Type 0 where
     pub called : Called (drive p k) x y (told r)
     pub unchanged : (e : RunFault) → r ≡ Err e → y ≡ x
 
-  pub record Advanced (x : Run F D V) (k : ℕ) (out : List ℕ) (y : Run F D V) (out' : List ℕ) (r : Result (ℕ × ℕ) RunFault) : Type 0 where
+  pub record Advanced (x : Run F D V f c) (k : ℕ) (out : List ℕ) (y : Run F D V f c) (out' : List ℕ) (r : Result (ℕ × ℕ) RunFault) : Type 0 where
     pub called : Called (advance k (length out)) x y (told_trace r out')
     -- the bytes that it says it wrote stand in the buffer
     pub within : (ticks bytes : ℕ) → r ≡ Ok (ticks, bytes) → bytes ≤ length out'
@@ -97,10 +97,10 @@ module _ {F D V : Type 0} (f : Family F V) (c : Calendar D) where
     pub stays : (C : Board) (s : State V) → Has C s x → behind r out' ≡ behind r out
     pub unchanged : (e : RunFault) → r ≡ Err e → (y ≡ x) × (out' ≡ out)
 
-  abbrev pub Reads : Run F D V → ℕ → Result (ℕ × Bool) RunFault → Type 0
+  abbrev pub Reads : Run F D V f c → ℕ → Result (ℕ × Bool) RunFault → Type 0
   Reads x n r = Called (read n) x x (told_level r)
 
-  abbrev pub Finished : Run F D V → ℕ × ℕ → Type 0
+  abbrev pub Finished : Run F D V f c → ℕ × ℕ → Type 0
   Finished x r = (C : Board) (s : State V) → Has C s x → r ≡ finish f.logic C s
 
   -- what a calendar of the meaning a holds: after completed tick t its now is t, and the entries that wait are exactly
@@ -112,5 +112,5 @@ module _ {F D V : Type 0} (f : Family F V) (c : Calendar D) where
     pub exactly : (t : ℕ) → s.ticks ≡ t + 1 → (e : Entry) → List-has a.waiting e ↔ Due f.logic C s t e
 
   -- the calendar of a run that was opened on a fit one
-  abbrev pub KeepsTime : Run F D V → D → Type 0
+  abbrev pub KeepsTime : Run F D V f c → D → Type 0
   KeepsTime x cal = (cal ≡ x.calendar) × ((C : Board) (s : State V) → Has C s x → s.fit ≡ true → OnTime C s (c.meaning cal))

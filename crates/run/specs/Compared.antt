@@ -29,12 +29,12 @@ contradiction L B s B' s' =
 
 module _ {F C D V : Type 0} (f : Family F V) (c : Calendar C) (d : Calendar D) where
   -- the one answer, for every two states that the runs have come to
-  abbrev pub Compared : Run F C V → Run F D V → Option ℕ → Type 0
+  abbrev pub Compared : Run F C V f c → Run F D V f d → Option ℕ → Type 0
   Compared x y r =
       (B B' : Board) (s s' : State V) → Has f c B s x → Has f d B' s' y → r ≡ contradiction f.logic B s B' s'
 
   -- where the second run learned more than the first, of one netlist over equally many ticks, it contradicts no definite level
-  abbrev pub LearningContradictsNone : Run F C V → Run F D V → Option ℕ → Type 0
+  abbrev pub LearningContradictsNone : Run F C V f c → Run F D V f d → Option ℕ → Type 0
   LearningContradictsNone x y a =
       (r q : Life) (u v : List ℕ) → Lives f c r x u → Lives f d q y v → r.board ≡ q.board → (reached f.logic r).ticks ≡ (reached f.logic q).ticks →
       Learns f.logic r q ((reached f.logic r).ticks - 1) → a ≡ None

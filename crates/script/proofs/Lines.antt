@@ -1,6 +1,6 @@
 -- The lines of an advance: a trace that is read back gives the records of the definition, and 40,000 bytes have room for them.
 use Rattle.std.proofs.Common.{◌≡◌, ℕ, zero, suc, ◌+◌, ◌-◌, ◌*◌, ◌/◌, ◌%◌, ◌^◌, ◌<◌, ◌≤◌, Bool, true, false, cond, not, eqb, ltb, List, [], ◌∷◌, ◌++◌, length, get_or, Some, None, decimal, sym, refl, ap, ◌∙◌, subst, append_assoc, arith, length-append}
-use Rattle.std.specs.List.{range_with_len, flat_map, AllByRecursion as All}
+use Rattle.std.specs.List.{range_with_len, flat_map, AllByRecursion}
 use Rattle.std.proofs.lemmas.Fmt.{length-decimal-le}
 use Rattle.std.proofs.ByRecursion.{All-append, All-weaker, All-from_get_or}
 use Rattle.std.proofs.lemmas.List.{append-nil, get_or-append-add}
@@ -77,13 +77,13 @@ module _ {V : Type 0} (L : Logic V) (N : Naming V) where
   records_next c more (suc n) =
       (λ i. records_next c more n i ++ record_next c more n i) ∙ append_assoc (record_at L N (change_bytes c ++ more) 0) (records_text L N more n) (record_at L N more n)
 
-  lines_are : (cs : List Change) → All Plain cs → records_text L N (flat_map change_bytes cs) (length cs) ≡ flat_map (change_text L N) cs
+  lines_are : (cs : List Change) → AllByRecursion Plain cs → records_text L N (flat_map change_bytes cs) (length cs) ≡ flat_map (change_text L N) cs
   lines_are [] h = refl
   lines_are (c ∷ cs) h =
       records_next c (flat_map change_bytes cs) (length cs) ∙ (λ i. one_record c (flat_map change_bytes cs) h.0 i ++ lines_are cs h.1 i)
 
   -- the text of a trace is that of its records
-  pub trace_lines : (cs : List Change) (ticks : ℕ) → All Plain cs → trace_text L N (flat_map change_bytes cs) ticks ≡ flat_map (change_text L N) cs ++ done_text ticks
+  pub trace_lines : (cs : List Change) (ticks : ℕ) → AllByRecursion Plain cs → trace_text L N (flat_map change_bytes cs) ticks ≡ flat_map (change_text L N) cs ++ done_text ticks
   trace_lines cs ticks h =
       let many : length (flat_map change_bytes cs) / 8 ≡ length cs = omega (arith, length_bytes cs) in
       ap (λ n. records_text L N (flat_map change_bytes cs) n ++ done_text ticks) many ∙ ap (λ l. l ++ done_text ticks) (lines_are cs h)
@@ -106,7 +106,7 @@ module _ {V : Type 0} (L : Logic V) (N : Naming V) where
         let d = length-append (name_of L N c.code) (10 ∷ []) in
         omega arith
 
-    pub lines_short : (cs : List Change) → All Plain cs → length (flat_map (change_text L N) cs) ≤ 19 * length cs
+    pub lines_short : (cs : List Change) → AllByRecursion Plain cs → length (flat_map (change_text L N) cs) ≤ 19 * length cs
     lines_short [] h = omega arith
     lines_short (c ∷ cs) h =
         let a = length-append (change_text L N c) (flat_map (change_text L N) cs) in
@@ -116,22 +116,22 @@ module _ {V : Type 0} (L : Logic V) (N : Naming V) where
 
 -- ---- the records of a run
 
-all_joined : {X A : Type 0} (P : A → Type 0) (f : X → List A) (xs : List X) → All (λ x. All P (f x)) xs → All P (flat_map f xs)
+all_joined : {X A : Type 0} (P : A → Type 0) (f : X → List A) (xs : List X) → AllByRecursion (λ x. AllByRecursion P (f x)) xs → AllByRecursion P (flat_map f xs)
 all_joined P f [] h = tt
 all_joined P f (x ∷ xs) h = All-append P (f x) (flat_map f xs) h.0 (all_joined P f xs h.1)
 
 module _ {V : Type 0} {L : Logic V} (laws : Laws L) (N : Naming V) (C : Board) (s : State V) where
-  change_plain : (t n : ℕ) → t < 16777216 → n < 1024 → All (Plain L N) (change L C s t n)
+  change_plain : (t n : ℕ) → t < 16777216 → n < 1024 → AllByRecursion (Plain L N) (change L C s t n)
   change_plain t n early low = by (eqb (L.code (level L C s n t)) (L.code (level_before L C s n t)))
     where
-      by : (b : Bool) → All (Plain L N) (cond b [] (record { tick = t; net = n; code = L.code (level L C s n t) } ∷ []))
+      by : (b : Bool) → AllByRecursion (Plain L N) (cond b [] (record { tick = t; net = n; code = L.code (level L C s n t) } ∷ []))
       by true = tt
       by false = (record { tick_small = early; net_small = low; code_small = laws.code_fits (level L C s n t); value = level L C s n t; has_value = laws.code_back (level L C s n t) }, tt)
 
-  tick_plain : (t : ℕ) → t < 16777216 → All (λ n. n < 1024) C.watches → All (Plain L N) (changes_at L C s t)
-  tick_plain t early low = all_joined (Plain L N) (change L C s t) C.watches (All-weaker (λ n. n < 1024) (λ n. All (Plain L N) (change L C s t n)) (λ n lt. change_plain t n early lt) C.watches low)
+  tick_plain : (t : ℕ) → t < 16777216 → AllByRecursion (λ n. n < 1024) C.watches → AllByRecursion (Plain L N) (changes_at L C s t)
+  tick_plain t early low = all_joined (Plain L N) (change L C s t) C.watches (All-weaker (λ n. n < 1024) (λ n. AllByRecursion (Plain L N) (change L C s t n)) (λ n lt. change_plain t n early lt) C.watches low)
 
-  watches_low : WellFormed C → All (λ n. n < 1024) C.watches
+  watches_low : WellFormed C → AllByRecursion (λ n. n < 1024) C.watches
   watches_low wf = All-from_get_or (λ n. n < 1024) C.watches 0 (λ i lt. omega (arith, wf.below i lt, wf.nets))
 
   -- an advance that is not refused does not pass the last tick
@@ -144,11 +144,11 @@ module _ {V : Type 0} {L : Logic V} (laws : Laws L) (N : Naming V) (C : Board) (
       by false false true q f = absurd (let z : ◌≡◌ {A = ℕ} 0 1 = cc in omega arith)
       by false false false q f = q
 
-  pub written_plain : WellFormed C → (k : ℕ) → s.ticks + k ≤ 16777216 → All (Plain L N) (written L C s k most_trace)
+  pub written_plain : WellFormed C → (k : ℕ) → s.ticks + k ≤ 16777216 → AllByRecursion (Plain L N) (written L C s k most_trace)
   written_plain wf k early =
       let few = (stops laws C s k most_trace).most in
       all_joined (Plain L N) (changes_at L C s) (range_with_len s.ticks (completes L C s k s.ticks most_trace))
-      (counting_all (λ t. All (Plain L N) (changes_at L C s t)) s.ticks (completes L C s k s.ticks most_trace) (λ t p q. tick_plain t (omega arith) (watches_low wf)))
+      (counting_all (λ t. AllByRecursion (Plain L N) (changes_at L C s t)) s.ticks (completes L C s k s.ticks most_trace) (λ t p q. tick_plain t (omega arith) (watches_low wf)))
 
   pub written_few : (k : ℕ) → length (written L C s k most_trace) ≤ 2048
   written_few k = let fits = (stops laws C s k most_trace).fits in omega arith

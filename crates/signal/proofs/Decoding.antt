@@ -1,11 +1,11 @@
 -- A trace can be read back: records with headings that are all different tell which were written.
-use Rattle.std.proofs.Common.{◌≡◌, ℕ, zero, suc, ◌+◌, ◌-◌, ◌*◌, ◌/◌, ◌%◌, ◌<◌, ◌≤◌, Bool, true, false, cond, List, [], ◌∷◌, ◌++◌, map, length, get_or, sym, refl, ap, ◌∙◌, subst, ⊎_elim, append_assoc, add-one, arith}
-use mathlib.Core.List.{append_cancel_left, head-eq_of_cons-eq, tail-eq_of_cons-eq}
-use Rattle.std.specs.List.{range_with_len, flat_map, AllByRecursion as All}
+use Rattle.std.proofs.Common.{◌≡◌, ℕ, zero, suc, ◌+◌, ◌/◌, ◌%◌, ◌<◌, ◌≤◌, Bool, true, false, cond, List, [], ◌∷◌, ◌++◌, map, length, get_or, sym, refl, ap, ◌∙◌, subst, ⊎_elim, add-one, arith}
+use mathlib.Core.List.{append_cancel_left}
+use Rattle.std.specs.List.{range_with_len, flat_map, AllByRecursion}
 use Rattle.std.proofs.ByRecursion.{All-from_get_or, All-append, All-weaker, All-map}
 use Rattle.std.proofs.lemmas.Bool.{cases_eq, cases_lt}
 use Rattle.signal.specs.Calls.{bytes16, bytes32}
-use Rattle.signal.proofs.Rows.{joined_append, all_both}
+use Rattle.signal.proofs.Rows.{all_both}
 
 -- a tick and a net
 abbrev pub Slot : Type 0
@@ -20,7 +20,7 @@ out k stays code = cond stays [] (heading k ++ bytes16 code)
 
 abbrev pub Apart : List Slot → Type 0
 Apart [] = Unit {0}
-Apart (k ∷ ks) = All (λ j. heading j ≡ heading k → ⊥) ks × Apart ks
+Apart (k ∷ ks) = AllByRecursion (λ j. heading j ≡ heading k → ⊥) ks × Apart ks
 
 abbrev Told : Type 0
 Told = (Slot → Bool) × (Slot → ℕ)
@@ -32,7 +32,7 @@ two_eq : (a b c d : ℕ) (xs ys : List ℕ) → a ∷ b ∷ xs ≡ c ∷ d ∷ y
 two_eq a b c d xs ys h = (cc, cc)
 
 -- what follows begins with no heading that is not of its own
-strange : (k : Slot) (rest : List ℕ) (e : Told) (ks : List Slot) → All (λ j. heading j ≡ heading k → ⊥) ks → heading k ++ rest ≡ outs e ks → ⊥
+strange : (k : Slot) (rest : List ℕ) (e : Told) (ks : List Slot) → AllByRecursion (λ j. heading j ≡ heading k → ⊥) ks → heading k ++ rest ≡ outs e ks → ⊥
 strange k rest e [] h eq = let z : ◌≡◌ {A = ℕ} 0 1 = cc in omega arith
 strange k rest e (j ∷ js) h eq = by (e.0 j) refl (strange k rest e js h.1)
   where
@@ -42,17 +42,17 @@ strange k rest e (j ∷ js) h eq = by (e.0 j) refl (strange k rest e js h.1)
         let first : heading k ++ rest ≡ (heading j ++ bytes16 (e.1 j)) ++ outs e js = eq ∙ ap (λ b. out j b (e.1 j) ++ outs e js) is in
         h.0 (cc)
 
-pub decode : (e e' : Told) (ks : List Slot) → Apart ks → outs e ks ≡ outs e' ks → All (λ k. out k (e.0 k) (e.1 k) ≡ out k (e'.0 k) (e'.1 k)) ks
+pub decode : (e e' : Told) (ks : List Slot) → Apart ks → outs e ks ≡ outs e' ks → AllByRecursion (λ k. out k (e.0 k) (e.1 k) ≡ out k (e'.0 k) (e'.1 k)) ks
 decode e e' [] h eq = tt
 decode e e' (k ∷ ks) h eq = by (e.0 k) (e'.0 k) refl refl (decode e e' ks h.1)
   where
-    by : (b b' : Bool) → e.0 k ≡ b → e'.0 k ≡ b' → (outs e ks ≡ outs e' ks → All (λ j. out j (e.0 j) (e.1 j) ≡ out j (e'.0 j) (e'.1 j)) ks) →
-        (out k (e.0 k) (e.1 k) ≡ out k (e'.0 k) (e'.1 k)) × All (λ j. out j (e.0 j) (e.1 j) ≡ out j (e'.0 j) (e'.1 j)) ks
+    by : (b b' : Bool) → e.0 k ≡ b → e'.0 k ≡ b' → (outs e ks ≡ outs e' ks → AllByRecursion (λ j. out j (e.0 j) (e.1 j) ≡ out j (e'.0 j) (e'.1 j)) ks) →
+        (out k (e.0 k) (e.1 k) ≡ out k (e'.0 k) (e'.1 k)) × AllByRecursion (λ j. out j (e.0 j) (e.1 j) ≡ out j (e'.0 j) (e'.1 j)) ks
     by b b' is is' later = from b b' (ap (λ c. out k c (e.1 k)) is) (ap (λ c. out k c (e'.1 k)) is') (sym (ap (λ c. out k c (e.1 k) ++ outs e ks) is) ∙ eq ∙ ap (λ c. out k c (e'.1 k) ++ outs e' ks) is') later
       where
         from : (b b' : Bool) → out k (e.0 k) (e.1 k) ≡ out k b (e.1 k) → out k (e'.0 k) (e'.1 k) ≡ out k b' (e'.1 k) → out k b (e.1 k) ++ outs e ks ≡ out k b' (e'.1 k) ++ outs e' ks →
-            (outs e ks ≡ outs e' ks → All (λ j. out j (e.0 j) (e.1 j) ≡ out j (e'.0 j) (e'.1 j)) ks) →
-            (out k (e.0 k) (e.1 k) ≡ out k (e'.0 k) (e'.1 k)) × All (λ j. out j (e.0 j) (e.1 j) ≡ out j (e'.0 j) (e'.1 j)) ks
+            (outs e ks ≡ outs e' ks → AllByRecursion (λ j. out j (e.0 j) (e.1 j) ≡ out j (e'.0 j) (e'.1 j)) ks) →
+            (out k (e.0 k) (e.1 k) ≡ out k (e'.0 k) (e'.1 k)) × AllByRecursion (λ j. out j (e.0 j) (e.1 j) ≡ out j (e'.0 j) (e'.1 j)) ks
         from true true p q w l = (p ∙ sym q, l w)
         from true false p q w l = absurd (strange k (bytes16 (e'.1 k) ++ outs e' ks) e ks h.0 (sym w))
         from false true p q w l = absurd (strange k (bytes16 (e.1 k) ++ outs e ks) e' ks h.0 w)
@@ -102,7 +102,7 @@ heading_tick j k p q e =
 -- ---- the slots are apart where the nets rise
 abbrev pub Up : List ℕ → Type 0
 Up [] = Unit {0}
-Up (w ∷ ws) = All (λ v. w < v) ws × Up ws
+Up (w ∷ ws) = AllByRecursion (λ v. w < v) ws × Up ws
 
 pub up_from : (ws : List ℕ) → ((i j : ℕ) → i < j → j < length ws → get_or ws i 0 < get_or ws j 0) → Up ws
 up_from [] h = tt
@@ -116,11 +116,11 @@ rising_all ws h i (suc j) p q =
     ⊎_elim (λ lt. let far = rising_all ws h i j lt (omega arith) in omega arith)
     (λ ge. let same : i ≡ j = omega arith in subst (λ k. get_or ws k 0 < get_or ws (suc j) 0) (sym same) step) (cases_lt i j)
 
-apart_append : (ks js : List Slot) → Apart ks → Apart js → All (λ k. All (λ j. heading j ≡ heading k → ⊥) js) ks → Apart (ks ++ js)
+apart_append : (ks js : List Slot) → Apart ks → Apart js → AllByRecursion (λ k. AllByRecursion (λ j. heading j ≡ heading k → ⊥) js) ks → Apart (ks ++ js)
 apart_append [] js h g c = g
 apart_append (k ∷ ks) js h g c = (All-append (λ j. heading j ≡ heading k → ⊥) ks js h.0 c.0, apart_append ks js h.1 g c.1)
 
-row_apart : (t : ℕ) (ws : List ℕ) → Up ws → All (λ w. w < 65536) ws → Apart (map (λ n. (t, n)) ws)
+row_apart : (t : ℕ) (ws : List ℕ) → Up ws → AllByRecursion (λ w. w < 65536) ws → Apart (map (λ n. (t, n)) ws)
 row_apart t [] h b = tt
 row_apart t (w ∷ ws) h b = (
   All-map (λ j. heading j ≡ heading (t, w) → ⊥) (λ n. (t, n)) ws (all_both (λ v. w < v) (λ v. v < 65536) (λ v. heading (t, v) ≡ heading (t, w) → ⊥)
@@ -128,35 +128,35 @@ row_apart t (w ∷ ws) h b = (
   row_apart t ws h.1 b.1,
 )
 
-row_ticks : (t : ℕ) (ws : List ℕ) (P : ℕ → Type 0) → P t → All (λ (k : Slot). P k.0) (map (λ n. (t, n)) ws)
+row_ticks : (t : ℕ) (ws : List ℕ) (P : ℕ → Type 0) → P t → AllByRecursion (λ (k : Slot). P k.0) (map (λ n. (t, n)) ws)
 row_ticks t [] P h = tt
 row_ticks t (w ∷ ws) P h = (h, row_ticks t ws P h)
 
-slots_ticks : (ws : List ℕ) (P : ℕ → Type 0) (a m : ℕ) → ((t : ℕ) → a ≤ t → t < a + m → P t) → All (λ (k : Slot). P k.0) (slots ws a m)
+slots_ticks : (ws : List ℕ) (P : ℕ → Type 0) (a m : ℕ) → ((t : ℕ) → a ≤ t → t < a + m → P t) → AllByRecursion (λ (k : Slot). P k.0) (slots ws a m)
 slots_ticks ws P a zero h = tt
 slots_ticks ws P a (suc m) h =
     All-append (λ (k : Slot). P k.0) (map (λ n. (a, n)) ws) (slots ws (a + 1) m) (row_ticks a ws P (h a (omega arith) (omega arith))) (slots_ticks ws P (a + 1) m (λ t p q. h t (omega arith) (omega arith)))
 
-pub slots_apart : (ws : List ℕ) → Up ws → All (λ w. w < 65536) ws → (a m : ℕ) → a + m ≤ 16777216 → Apart (slots ws a m)
+pub slots_apart : (ws : List ℕ) → Up ws → AllByRecursion (λ w. w < 65536) ws → (a m : ℕ) → a + m ≤ 16777216 → Apart (slots ws a m)
 slots_apart ws up below a zero h = tt
 slots_apart ws up below a (suc m) h =
-    let later : All (λ (j : Slot). (a + 1 ≤ j.0) × (j.0 < a + 1 + m)) (slots ws (a + 1) m) = slots_ticks ws (λ t. (a + 1 ≤ t) × (t < a + 1 + m)) (a + 1) m (λ t p q. (p, q)) in
+    let later : AllByRecursion (λ (j : Slot). (a + 1 ≤ j.0) × (j.0 < a + 1 + m)) (slots ws (a + 1) m) = slots_ticks ws (λ t. (a + 1 ≤ t) × (t < a + 1 + m)) (a + 1) m (λ t p q. (p, q)) in
     apart_append (map (λ n. (a, n)) ws) (slots ws (a + 1) m) (row_apart a ws up below) (slots_apart ws up below (a + 1) m (omega arith))
-    (All-weaker (λ (k : Slot). k.0 ≡ a) (λ k. All (λ j. heading j ≡ heading k → ⊥) (slots ws (a + 1) m))
+    (All-weaker (λ (k : Slot). k.0 ≡ a) (λ k. AllByRecursion (λ j. heading j ≡ heading k → ⊥) (slots ws (a + 1) m))
     (λ k is. All-weaker (λ (j : Slot). (a + 1 ≤ j.0) × (j.0 < a + 1 + m)) (λ j. heading j ≡ heading k → ⊥)
     (λ j lies e. let same : j.0 ≡ k.0 = heading_tick j k (omega arith) (omega arith) e in omega arith) (slots ws (a + 1) m) later)
     (map (λ n. (a, n)) ws) (row_ticks a ws (λ t. t ≡ a) refl))
 
 -- what holds of every slot holds of every net of a tick
-unmap : (P : Slot → Type 0) (t : ℕ) (ws : List ℕ) (rest : List Slot) → All P (map (λ n. (t, n)) ws ++ rest) → All (λ n. P (t, n)) ws × All P rest
+unmap : (P : Slot → Type 0) (t : ℕ) (ws : List ℕ) (rest : List Slot) → AllByRecursion P (map (λ n. (t, n)) ws ++ rest) → AllByRecursion (λ n. P (t, n)) ws × AllByRecursion P rest
 unmap P t [] rest h = (tt, h)
 unmap P t (w ∷ ws) rest h = let r = unmap P t ws rest h.1 in ((h.0, r.0), r.1)
 
-pub at_tick : (P : Slot → Type 0) (ws : List ℕ) (a m : ℕ) → All P (slots ws a m) → (t : ℕ) → a ≤ t → t < a + m → All (λ n. P (t, n)) ws
+pub at_tick : (P : Slot → Type 0) (ws : List ℕ) (a m : ℕ) → AllByRecursion P (slots ws a m) → (t : ℕ) → a ≤ t → t < a + m → AllByRecursion (λ n. P (t, n)) ws
 at_tick P ws a zero h t p q = absurd (omega arith)
 at_tick P ws a (suc m) h t p q =
     let r = unmap P a ws (slots ws (a + 1) m) h in
     ⊎_elim
-    (λ e. subst (λ u. All (λ n. P (u, n)) ws) (sym e) r.0)
+    (λ e. subst (λ u. AllByRecursion (λ n. P (u, n)) ws) (sym e) r.0)
     (λ ne. at_tick P ws (a + 1) m r.1 t (omega arith) (omega arith))
     (cases_eq t a)

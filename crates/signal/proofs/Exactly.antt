@@ -1,10 +1,10 @@
 -- The entries that wait are exactly those that are due.
-use Rattle.std.proofs.Common.{◌≡◌, ℕ, zero, suc, ◌+◌, ◌-◌, ◌<◌, ◌≤◌, Bool, true, false, cond, not, ◌&&◌, eqb, leb, List, [], ◌∷◌, ◌++◌, length, sym, refl, ap, ◌∙◌, subst, inl, inr, arith}
-use Rattle.std.specs.List.{range_with_len, flat_map, ContainsAt as Has, AllByRecursion as All}
+use Rattle.std.proofs.Common.{◌≡◌, ℕ, ◌+◌, ◌-◌, ◌<◌, ◌≤◌, Bool, true, false, cond, not, ◌&&◌, eqb, leb, List, [], ◌∷◌, ◌++◌, sym, refl, ap, ◌∙◌, subst, inl, inr, arith}
+use Rattle.std.specs.List.{range_with_len, flat_map, ContainsAt as Has, AllByRecursion}
 use Rattle.std.proofs.ByRecursion.{all-has, has_append_left, has_append_right, has_push}
 use Rattle.std.proofs.lemmas.Bool.{and_parts, and_from, leb-true, le-leb, not-true, not_from_false, eqb-false, ne_eqb}
 use Rattle.logic.specs.Logic.{Logic, Laws}
-use Rattle.netlist.specs.Board.{Board, WellFormed}
+use Rattle.netlist.specs.Board.{Board}
 use Rattle.signal.specs.Circuit.{gate, gate_count}
 use Rattle.calendar.specs.declared.entry.Entry.{Entry}
 use Rattle.signal.specs.Calls.{State, drives, entry, waiting_after}
@@ -12,7 +12,7 @@ use Rattle.signal.specs.Ordered.{Ordered}
 use Rattle.signal.specs.Waiting.{Due, WaitingExactly, Sooner, WaitingOrdered}
 use Rattle.signal.proofs.Ordering.{all_joined, ordered_joined, across}
 use Rattle.signal.proofs.Rows.{counting_all}
-use Rattle.signal.proofs.Grid.{joined_around, grid, grid_all}
+use Rattle.signal.proofs.Grid.{joined_around, grid_all}
 
 pub has_joined : {A : Type 0} (f : ℕ → List A) (a m k : ℕ) (x : A) → a ≤ k → k < a + m → Has (f k) x → Has (flat_map f (range_with_len a m)) x
 has_joined f a m k x low high h =
@@ -56,10 +56,10 @@ module _ {V : Type 0} {L : Logic V} (laws : Laws L) where
 
 module _ {V : Type 0} (L : Logic V) (C : Board) (s : State V) (t : ℕ) where
   -- what holds of an entry of gate g for tick u holds of all that waits of them, one at most
-  entry_all : (P : Entry → Type 0) (u g : ℕ) → ((k : ℕ) → P (record { tick = u; gate = g; code = k })) → All P (entry L C s t u g)
+  entry_all : (P : Entry → Type 0) (u g : ℕ) → ((k : ℕ) → P (record { tick = u; gate = g; code = k })) → AllByRecursion P (entry L C s t u g)
   entry_all P u g h = by (leb u (t + (gate C g).delay) && not (eqb (L.code (drives L C s g u)) (L.code (drives L C s g (u - 1)))))
     where
-      by : (b : Bool) → All P (cond b (record { tick = u; gate = g; code = L.code (drives L C s g u) } ∷ []) [])
+      by : (b : Bool) → AllByRecursion P (cond b (record { tick = u; gate = g; code = L.code (drives L C s g u) } ∷ []) [])
       by true = (h (L.code (drives L C s g u)), tt)
       by false = tt
 
@@ -74,9 +74,9 @@ module _ {V : Type 0} (L : Logic V) (C : Board) (s : State V) (t : ℕ) where
   abbrev at : ℕ → List Entry
   at u = flat_map (entry L C s t u) (range_with_len 0 (gate_count C))
 
-  at_tick : (u : ℕ) → All (λ (x : Entry). x.tick ≡ u) (at u)
+  at_tick : (u : ℕ) → AllByRecursion (λ (x : Entry). x.tick ≡ u) (at u)
   at_tick u = all_joined (entry L C s t u) (λ (x : Entry). x.tick ≡ u) (range_with_len 0 (gate_count C))
-      (counting_all (λ g. All (λ (x : Entry). x.tick ≡ u) (entry L C s t u g)) 0 (gate_count C) (λ g _ _. entry_all (λ (x : Entry). x.tick ≡ u) u g (λ k. refl)))
+      (counting_all (λ g. AllByRecursion (λ (x : Entry). x.tick ≡ u) (entry L C s t u g)) 0 (gate_count C) (λ g _ _. entry_all (λ (x : Entry). x.tick ≡ u) u g (λ k. refl)))
 
   entries_ordered : Ordered Sooner (waiting_after L C s t)
   entries_ordered = ordered_joined Sooner at (t + 1) 64

@@ -1,11 +1,11 @@
 -- The three laws, of runs as they are handled.
-use Rattle.std.proofs.Common.{◌≡◌, ℕ, ◌+◌, ◌<◌, Bool, List, [], ◌∷◌, ◌++◌, Some, None, Option, sym, refl, ap, ◌∙◌, subst}
+use Rattle.std.proofs.Common.{◌≡◌, ℕ, Bool, List, [], ◌∷◌, ◌++◌, Some, None, Option, sym, refl, ap, ◌∙◌}
 use Rattle.std.specs.List.{flat_map}
 use Rattle.logic.specs.Logic.{Logic, Laws}
 use Rattle.netlist.specs.Board.{Board}
-use Rattle.signal.specs.Calls.{State, Call, Answer, refused, read, opened, after, lived, answer, answers, refusal, replies, wrote}
-use Rattle.signal.specs.Laws.{Life, reached, net, ThreeLaws}
-use Rattle.signal.specs.Handled.{Called, Handled, opens, calls, AnyRun, Between, AnyTwoRuns}
+use Rattle.signal.specs.Calls.{State, Call, Answer, refused, read, opened, lived, answer, answers, refusal, replies, wrote}
+use Rattle.signal.specs.Laws.{reached}
+use Rattle.signal.specs.Handled.{Handled, opens, calls, AnyRun, AnyTwoRuns}
 use Rattle.signal.proofs.Theorems.{three_laws}
 
 module _ {V : Type 0} (L : Logic V) {R : Type 0} (has : Board → State V → R → Type 0) (C : Board) (fit : Bool) where

@@ -1,10 +1,10 @@
 -- P and S are the values last accepted, and no call changes a level of a completed tick.
-use Rattle.std.proofs.Common.{◌≡◌, ℕ, zero, suc, ◌+◌, ◌<◌, ◌≤◌, Bool, true, false, cond, not, ◌&&◌, eqb, ltb, leb, ◌⊎◌, List, [], ◌∷◌, ◌++◌, is_some, Some, None, Option, sym, refl, ap, ◌∙◌, subst, inl, inr, ⊎_elim, arith}
+use Rattle.std.proofs.Common.{◌≡◌, ℕ, ◌<◌, ◌≤◌, Bool, true, false, cond, ◌&&◌, eqb, leb, List, [], ◌∷◌, ◌++◌, is_some, Some, None, Option, sym, refl, ap, ◌∙◌, subst, inl, inr, ⊎_elim, arith}
 use Rattle.std.proofs.lemmas.Bool.{both_ways, not-false, cases_eq, and_parts, and_from, and_right, eqb-true, eq-eqb, leb-true, le-leb, lt-leb, ltb-false, cond-false}
 use Rattle.logic.specs.Logic.{Logic, Laws}
 use Rattle.netlist.specs.Board.{Board}
-use Rattle.signal.specs.Calls.{State, Call, wake, drive, advance, read, opened, value_of, level, checks, refusal, leaves, after, lived, completes}
-use Rattle.signal.specs.Inputs.{then, Accepted, Drives, Wakes, Last, InputsOf, InputsLast}
+use Rattle.signal.specs.Calls.{State, Call, wake, drive, advance, read, opened, value_of, level, checks, refusal, leaves, after, lived}
+use Rattle.signal.specs.Inputs.{then, Accepted, Drives, Wakes, Last, InputsLast}
 use Rattle.signal.specs.Traces.{PastStands}
 use Rattle.signal.proofs.Lives.{passed, level_same}
 

@@ -1,14 +1,14 @@
 -- What every call keeps of a run's state.
-use Rattle.std.proofs.Common.{◌≡◌, ℕ, zero, suc, ◌+◌, ◌-◌, ◌<◌, ◌≤◌, Bool, true, false, cond, not, ◌&&◌, eqb, ltb, leb, List, [], ◌∷◌, ◌++◌, Some, None, Option, sym, refl, ap, ◌∙◌, subst, append_assoc, add-zero, add_assoc, zero-add, arith}
+use Rattle.std.proofs.Common.{◌≡◌, ℕ, zero, suc, ◌+◌, ◌<◌, ◌≤◌, Bool, true, false, cond, ◌&&◌, eqb, ltb, leb, List, [], ◌∷◌, ◌++◌, Some, None, Option, sym, refl, ap, ◌∙◌, arith}
 use mathlib.Core.Path.{fun_ext}
-use Rattle.std.specs.List.{range_with_len, flat_map, AllByRecursion as All}
+use Rattle.std.specs.List.{range_with_len, flat_map, AllByRecursion}
 use Rattle.std.proofs.lemmas.List.Sorted.{IsPermutation-refl}
 use Rattle.std.proofs.lemmas.List.{append-nil}
-use Rattle.std.proofs.lemmas.Bool.{ltb-false, lt-leb, and_right, cond-false, not-false, both_ways}
+use Rattle.std.proofs.lemmas.Bool.{ltb-false, lt-leb, and_right, cond-false, not-false}
 use Rattle.logic.specs.Logic.{Logic, Laws}
 use Rattle.netlist.specs.Board.{Board}
 use Rattle.signal.specs.Signal.{started, N}
-use Rattle.signal.specs.Calls.{State, Call, Change, wake, drive, advance, read, opened, first_of, most_ticks, level, level_before, change, changes_at, completes, written, tick_room, checks, refusal, leaves, after, lived, change_bytes, answers, answer, replies, wrote, refused}
+use Rattle.signal.specs.Calls.{State, Call, wake, drive, advance, read, opened, first_of, most_ticks, level, level_before, changes_at, completes, written, tick_room, checks, refusal, leaves, after, lived, change_bytes, answers, answer, replies, wrote, refused}
 use Rattle.signal.proofs.Orders.{n_same}
 use Rattle.signal.proofs.Rows.{joined_append, joined_each, counting_append, counting_all}
 
@@ -17,7 +17,7 @@ no_fault : (b : Bool) (n : ℕ) (o : Option ℕ) → ◌≡◌ {A = Option ℕ} 
 no_fault true n o h = absurd (let z : ◌≡◌ {A = ℕ} 0 1 = cc in omega arith)
 no_fault false n o h = (refl, h)
 
-pub passed : (cs : List (Bool × ℕ)) → first_of cs ≡ None → All (λ check. check.0 ≡ false) cs
+pub passed : (cs : List (Bool × ℕ)) → first_of cs ≡ None → AllByRecursion (λ check. check.0 ≡ false) cs
 passed [] h = tt
 passed (c ∷ cs) h = let here = no_fault c.0 c.1 (first_of cs) h in (here.0, passed cs here.1)
 

@@ -1,15 +1,15 @@
 -- The order of the gates does not matter.
-use Rattle.std.proofs.Common.{◌≡◌, ℕ, zero, suc, ◌+◌, ◌-◌, ◌<◌, ◌≤◌, Bool, true, false, cond, T, eqb, ltb, List, [], ◌∷◌, ◌++◌, map, length, get_or, set, Some, None, Option, sym, refl, ap, ◌∙◌, subst, ⊎_elim, arith}
+use Rattle.std.proofs.Common.{◌≡◌, ℕ, zero, suc, ◌-◌, ◌<◌, ◌≤◌, Bool, true, false, cond, eqb, ltb, List, [], ◌∷◌, ◌++◌, length, get_or, set, Some, None, Option, sym, refl, ap, ◌∙◌, arith}
 use mathlib.Core.Path.{fun_ext}
 use Rattle.std.specs.List.{range_with_len, flat_map, swap}
 use Rattle.std.specs.List.Sorted.{IsPermutation}
 use Rattle.std.proofs.lemmas.List.Sorted.{IsPermutation-keeps}
-use Rattle.std.proofs.lemmas.Bool.{cases_eq, ltb-true, ltb-false, cond-true, cond-false}
-use Rattle.logic.specs.Logic.{Logic, Laws, RefinedBy}
+use Rattle.std.proofs.lemmas.Bool.{ltb-true}
+use Rattle.logic.specs.Logic.{Logic, Laws}
 use Rattle.netlist.specs.declared.gate.Gate.{Gate}
 use Rattle.netlist.specs.Board.{Board}
-use Rattle.signal.specs.Circuit.{gate, gate_count, operate, results}
-use Rattle.signal.specs.Signal.{Levels, resolved, resolved_onto, started, driven, from_port, from_gate, drivers, carried, before, N, D}
+use Rattle.signal.specs.Circuit.{gate, gate_count, operate}
+use Rattle.signal.specs.Signal.{Levels, resolved, resolved_onto, started, from_port, from_gate, carried, before, N}
 use Rattle.signal.proofs.Rows.{joined_map}
 
 -- ---- a sum in a commutative monoid is the same over shuffled lists

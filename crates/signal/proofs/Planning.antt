@@ -1,6 +1,6 @@
 -- What waits in the calendar, from one completed tick to the next.
-use Rattle.std.proofs.Common.{◌≡◌, ℕ, zero, suc, ◌+◌, ◌-◌, ◌<◌, ◌≤◌, Bool, true, false, cond, not, ◌&&◌, ◌||◌, eqb, ltb, leb, ◌⊎◌, List, [], ◌∷◌, ◌++◌, length, sum_by, sym, refl, ap, ◌∙◌, subst, inl, inr, ⊎_elim, arith}
-use Rattle.std.specs.List.{AllByRecursion as All, range_with_len, flat_map}
+use Rattle.std.proofs.Common.{◌≡◌, ℕ, ◌+◌, ◌-◌, ◌<◌, ◌≤◌, Bool, true, false, cond, not, ◌&&◌, ◌||◌, eqb, ltb, leb, ◌⊎◌, List, [], ◌∷◌, ◌++◌, length, sum_by, sym, refl, ap, ◌∙◌, inl, inr, ⊎_elim, arith}
+use Rattle.std.specs.List.{AllByRecursion, range_with_len, flat_map}
 use Rattle.std.proofs.lemmas.List.{append-nil}
 use Rattle.std.proofs.lemmas.Bool.{lt-ltb, le-ltb, le-leb, lt-leb, eq-eqb, ne_eqb, and_left, cases_lt, cases_eq, both_ways, ltb-true}
 use Rattle.logic.specs.Logic.{Logic}
@@ -145,12 +145,12 @@ module _ {V : Type 0} (L : Logic V) (C : Board) (s : State V) where
   -- ---- the calendar refuses none of it
 
   -- every entry lies ahead of the tick that is worked, at most 64 ticks, and is of a gate
-  pub planned_due : (t i : ℕ) → All (λ (x : Entry). (t < x.tick) × (x.tick ≤ t + 64) × (x.gate < gate_count C)) (planned t i)
+  pub planned_due : (t i : ℕ) → AllByRecursion (λ (x : Entry). (t < x.tick) × (x.tick ≤ t + 64) × (x.gate < gate_count C)) (planned t i)
   unfolding planned made
   planned_due t i = grid_all made (λ (x : Entry). (t < x.tick) × (x.tick ≤ t + 64) × (x.gate < gate_count C)) (mark t i) (t + 1) 64 (gate_count C) (λ u g p q r _. (omega arith, omega arith, r))
 
   -- no entry of the tick and the gate that gate i plans waits
-  pub planned_free : (t i : ℕ) → All (λ (x : Entry). x.tick ≡ t + (gate C i).delay → x.gate ≡ i → ⊥) (planned t i)
+  pub planned_free : (t i : ℕ) → AllByRecursion (λ (x : Entry). x.tick ≡ t + (gate C i).delay → x.gate ≡ i → ⊥) (planned t i)
   unfolding planned made d
   planned_free t i = grid_all made (λ (x : Entry). x.tick ≡ t + (gate C i).delay → x.gate ≡ i → ⊥) (mark t i) (t + 1) 64 (gate_count C)
       (λ u g p q r on eu eg. both_ways (mark t i (t + d i) i) (mark_old t i) (sym (ap (λ v. mark t i v g) eu ∙ ap (mark t i (t + d i)) eg) ∙ on))

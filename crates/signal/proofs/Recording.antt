@@ -1,18 +1,18 @@
 -- A trace has a record of each change and of nothing else, in order; and where an advance stops.
-use Rattle.std.proofs.Common.{◌≡◌, ℕ, zero, suc, ◌+◌, ◌-◌, ◌*◌, ◌<◌, ◌≤◌, Bool, true, false, cond, eqb, ltb, ◌⊎◌, List, [], ◌∷◌, ◌++◌, length, sym, refl, ap, ◌∙◌, subst, inl, inr, ⊎_elim, arith}
-use Rattle.std.specs.List.{range_with_len, flat_map, ContainsAt as Has, AllByRecursion as All}
+use Rattle.std.proofs.Common.{◌≡◌, ℕ, zero, suc, ◌+◌, ◌-◌, ◌*◌, ◌<◌, ◌≤◌, Bool, true, false, cond, eqb, List, [], ◌∷◌, ◌++◌, length, sym, refl, ap, ◌∙◌, subst, inl, inr, ⊎_elim, arith}
+use Rattle.std.specs.List.{range_with_len, flat_map, ContainsAt as Has, AllByRecursion}
 use Rattle.std.proofs.lemmas.List.{length-append}
 use Rattle.std.proofs.ByRecursion.{All-weaker, all-has, all_has_itself, has_append_left, has_append_right, has_push}
 use Rattle.std.proofs.lemmas.Bool.{eqb-false, ne_eqb, cases_lt}
 use Rattle.logic.specs.Logic.{Logic, Laws}
-use Rattle.netlist.specs.Board.{Board, WellFormed}
-use Rattle.signal.specs.Calls.{State, Change, change_bytes, level, level_before, change, changes_at, completes, tick_room, most_ticks}
-use Rattle.signal.specs.Laws.{Life, reached, trace, net}
+use Rattle.netlist.specs.Board.{Board}
+use Rattle.signal.specs.Calls.{State, Change, level, level_before, change, changes_at, completes, tick_room}
+use Rattle.signal.specs.Laws.{Life, reached}
 use Rattle.signal.specs.Ordered.{Ordered}
-use Rattle.signal.specs.Traces.{Earlier, Recorded, TraceOf, TracesExact, used, Stops, AdvancesStop, TracesTold}
+use Rattle.signal.specs.Traces.{Earlier, Recorded, TracesExact, Stops, TracesTold}
 use Rattle.signal.proofs.Rows.{counting_all}
 use Rattle.signal.proofs.Ordering.{all_joined, ordered_joined, across}
-use Rattle.signal.proofs.Lives.{Whole, whole, wrote_life}
+use Rattle.signal.proofs.Lives.{whole, wrote_life}
 use Rattle.signal.proofs.Advancing.{length_bytes, tick_fits, completes_stop, completes_go}
 use Rattle.signal.proofs.Decoding.{Up, up_from, rising_all}
 use Rattle.signal.proofs.Exactly.{has_joined}
@@ -20,7 +20,7 @@ use Rattle.signal.proofs.Inputs.{past_stands}
 
 -- ---- joined lists
 module _ {X A : Type 0} (f : X → List A) where
-  joined_has : (y : A) (xs : List X) → All (λ x. Has (f x) y → Has (flat_map f xs) y) xs
+  joined_has : (y : A) (xs : List X) → AllByRecursion (λ x. Has (f x) y → Has (flat_map f xs) y) xs
   joined_has y [] = tt
   joined_has y (x ∷ xs) = (
     has_append_left (f x) (flat_map f xs) y,
@@ -35,20 +35,20 @@ module _ {V : Type 0} {L : Logic V} (laws : Laws L) (C : Board) (s : State V) wh
   still t n = eqb (L.code (level L C s n t)) (L.code (level_before L C s n t))
 
   -- what holds of the record of each change holds of all that a net writes
-  change_all : (P : Change → Type 0) (t n : ℕ) → (still t n ≡ false → P (made t n)) → All P (change L C s t n)
+  change_all : (P : Change → Type 0) (t n : ℕ) → (still t n ≡ false → P (made t n)) → AllByRecursion P (change L C s t n)
   unfolding still made
   change_all P t n h = by (still t n) refl
     where
-      by : (b : Bool) → still t n ≡ b → All P (cond b [] (made t n ∷ []))
+      by : (b : Bool) → still t n ≡ b → AllByRecursion P (cond b [] (made t n ∷ []))
       by true e = tt
       by false e = (h e, tt)
 
   -- ---- by tick, then net
-  row_push : (t w : ℕ) (ws : List ℕ) → All (λ v. w < v) ws → Ordered Earlier (flat_map (change L C s t) ws) → (b : Bool) → Ordered Earlier (cond b [] (made t w ∷ []) ++ flat_map (change L C s t) ws)
+  row_push : (t w : ℕ) (ws : List ℕ) → AllByRecursion (λ v. w < v) ws → Ordered Earlier (flat_map (change L C s t) ws) → (b : Bool) → Ordered Earlier (cond b [] (made t w ∷ []) ++ flat_map (change L C s t) ws)
   unfolding made
   row_push t w ws up rest true = rest
   row_push t w ws up rest false = (
-    all_joined (change L C s t) (Earlier (made t w)) ws (All-weaker (λ v. w < v) (λ v. All (Earlier (made t w)) (change L C s t v))
+    all_joined (change L C s t) (Earlier (made t w)) ws (All-weaker (λ v. w < v) (λ v. AllByRecursion (Earlier (made t w)) (change L C s t v))
         (λ v lt. change_all (Earlier (made t w)) t v (λ _. inr (refl, lt))) ws up),
     rest,
   )
@@ -58,10 +58,10 @@ module _ {V : Type 0} {L : Logic V} (laws : Laws L) (C : Board) (s : State V) wh
   row_ordered t [] up = tt
   row_ordered t (w ∷ ws) up = row_push t w ws up.0 (row_ordered t ws up.1) (still t w)
 
-  row_tick : (P : ℕ → Type 0) (t : ℕ) → P t → All (λ (x : Change). P x.tick) (changes_at L C s t)
+  row_tick : (P : ℕ → Type 0) (t : ℕ) → P t → AllByRecursion (λ (x : Change). P x.tick) (changes_at L C s t)
   unfolding made
   row_tick P t h = all_joined (change L C s t) (λ (x : Change). P x.tick) C.watches
-      (All-weaker (Has C.watches) (λ n. All (λ (x : Change). P x.tick) (change L C s t n)) (λ n _. change_all (λ (x : Change). P x.tick) t n (λ _. h)) C.watches (all_has_itself C.watches))
+      (All-weaker (Has C.watches) (λ n. AllByRecursion (λ (x : Change). P x.tick) (change L C s t n)) (λ n _. change_all (λ (x : Change). P x.tick) t n (λ _. h)) C.watches (all_has_itself C.watches))
 
   ticks_ordered : Up C.watches → (m : ℕ) → Ordered Earlier (flat_map (changes_at L C s) (range_with_len 0 m))
   ticks_ordered up m = ordered_joined Earlier (changes_at L C s) 0 m (λ t. row_ordered t C.watches up)
@@ -116,13 +116,13 @@ module _ {V : Type 0} {L : Logic V} (laws : Laws L) (C : Board) (s : State V) wh
   stops k room = let all = stopped k s.ticks room in record { most = all.0; fits = all.1; free = all.2; full = all.3 }
 
 module _ {V : Type 0} {L : Logic V} (laws : Laws L) where
-  told : (r : Life) → All (Recorded L r) (flat_map (changes_at L r.board (reached L r)) (range_with_len 0 (reached L r).ticks))
+  told : (r : Life) → AllByRecursion (Recorded L r) (flat_map (changes_at L r.board (reached L r)) (range_with_len 0 (reached L r).ticks))
   unfolding made still
   told r =
       let C = r.board in
       let s = reached L r in
-      all_joined (changes_at L C s) (Recorded L r) (range_with_len 0 s.ticks) (counting_all (λ t. All (Recorded L r) (changes_at L C s t)) 0 s.ticks
-      (λ t _ lt. all_joined (change L C s t) (Recorded L r) C.watches (All-weaker (Has C.watches) (λ n. All (Recorded L r) (change L C s t n))
+      all_joined (changes_at L C s) (Recorded L r) (range_with_len 0 s.ticks) (counting_all (λ t. AllByRecursion (Recorded L r) (changes_at L C s t)) 0 s.ticks
+      (λ t _ lt. all_joined (change L C s t) (Recorded L r) C.watches (All-weaker (Has C.watches) (λ n. AllByRecursion (Recorded L r) (change L C s t n))
       (λ n watched. change_all laws C s (Recorded L r) t n (λ off. record {
         completed = omega arith;
         watched = watched;
@@ -155,7 +155,7 @@ module _ {V : Type 0} {L : Logic V} (laws : Laws L) where
         bytes = bytes;
         long = ap length bytes ∙ length_bytes s.changes;
         exactly = λ x. (
-          λ h. all-has (Recorded L r) s.changes x (subst (All (Recorded L r)) (sym w.told) (told r)) h,
+          λ h. all-has (Recorded L r) s.changes x (subst (AllByRecursion (Recorded L r)) (sym w.told) (told r)) h,
           λ h. subst (λ l. Has l x) (sym w.told) (written r x h),
         );
         ordered = subst (Ordered Earlier) (sym w.told) (ticks_ordered laws C s (up_from C.watches (rising_all C.watches r.well_formed.rising)) s.ticks);

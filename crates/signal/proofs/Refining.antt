@@ -1,12 +1,11 @@
 -- Refined start levels and port values give refined nets.
-use Rattle.std.proofs.Common.{◌≡◌, ℕ, zero, suc, ◌+◌, ◌-◌, ◌<◌, ◌≤◌, Bool, true, false, cond, T, eqb, ltb, List, [], ◌∷◌, ◌++◌, get_or, sym, refl, ap, ◌∙◌, subst, subst₂, ⊎_elim, arith}
+use Rattle.std.proofs.Common.{◌≡◌, ℕ, zero, suc, ◌+◌, ◌-◌, ◌<◌, ◌≤◌, Bool, true, false, cond, eqb, ltb, List, [], ◌∷◌, ◌++◌, get_or, refl, arith}
 use Rattle.std.specs.List.{range_with_len, flat_map}
-use Rattle.std.proofs.lemmas.Bool.{cases_eq, ltb-true}
+use Rattle.std.proofs.lemmas.Bool.{ltb-true}
 use Rattle.logic.specs.Logic.{Logic, Laws, RefinedBy}
 use Rattle.netlist.specs.Board.{Board}
 use Rattle.signal.specs.Circuit.{gate, gate_count, operate, results}
-use Rattle.signal.specs.Signal.{Levels, resolved, resolved_onto, driven, from_port, from_gate, drivers, carried, before, N, D}
-use Rattle.signal.proofs.Signals.{before_last, before_other, n_by_before}
+use Rattle.signal.specs.Signal.{Levels, resolved, resolved_onto, driven, from_port, from_gate, drivers, carried, before, N}
 
 -- w refines v
 abbrev Finer : {V : Type 0} → Logic V → V → V → Type 0

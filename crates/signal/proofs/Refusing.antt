@@ -1,11 +1,11 @@
 -- A call is refused with the lowest fault that is called for, and changes nothing then.
-use Rattle.std.proofs.Common.{◌≡◌, ℕ, zero, suc, ◌+◌, ◌*◌, ◌<◌, ◌≤◌, Bool, true, false, not, eqb, ltb, leb, ◌⊎◌, ◌↔◌, List, [], ◌∷◌, length, is_some, Some, None, Option, sym, refl, ap, ◌∙◌, subst, inl, inr, ⊎_elim, arith}
-use Rattle.std.specs.List.{AllByRecursion as All}
+use Rattle.std.proofs.Common.{◌≡◌, ℕ, ◌+◌, ◌<◌, Bool, true, false, not, ◌⊎◌, List, [], ◌∷◌, is_some, Some, None, Option, sym, refl, ap, ◌∙◌, subst, inl, inr, ⊎_elim, arith}
+use Rattle.std.specs.List.{AllByRecursion}
 use Rattle.std.proofs.lemmas.Bool.{both_ways, not-true, not_from_false, leb-true, le-leb, ltb-true, lt-ltb, eqb-true, eq-eqb}
 use Rattle.logic.specs.Logic.{Logic, Laws}
 use Rattle.netlist.specs.Board.{Board}
 use Rattle.signal.specs.Circuit.{gate_count}
-use Rattle.signal.specs.Calls.{State, Call, wake, drive, advance, read, Answer, refused, first_of, most_ticks, tick_room, checks, refusal, leaves, answers, after, answer}
+use Rattle.signal.specs.Calls.{State, Call, wake, drive, advance, read, Answer, refused, first_of, most_ticks, tick_room, checks, refusal, leaves, answers, answer}
 use Rattle.signal.specs.Refusals.{Fault, run_layer, fault, Valueless, Wrong, RefusedExactly, RefusalsExact}
 
 -- ---- checks in order
@@ -16,9 +16,9 @@ Fires (c ∷ cs) n = ((n ≡ c.1) × (c.0 ≡ true)) ⊎ Fires cs n
 
 abbrev Rising : List (Bool × ℕ) → Type 0
 Rising [] = Unit {0}
-Rising (c ∷ cs) = All (λ (d : Bool × ℕ). c.1 < d.1) cs × Rising cs
+Rising (c ∷ cs) = AllByRecursion (λ (d : Bool × ℕ). c.1 < d.1) cs × Rising cs
 
-fires_above : (k : ℕ) (cs : List (Bool × ℕ)) (n : ℕ) → All (λ (d : Bool × ℕ). k < d.1) cs → Fires cs n → k < n
+fires_above : (k : ℕ) (cs : List (Bool × ℕ)) (n : ℕ) → AllByRecursion (λ (d : Bool × ℕ). k < d.1) cs → Fires cs n → k < n
 fires_above k [] n h f = elim f [ ]
 fires_above k (c ∷ cs) n h (inl e) = omega (arith, e.0, h.0)
 fires_above k (c ∷ cs) n h (inr f) = fires_above k cs n h.1 f

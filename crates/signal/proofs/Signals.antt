@@ -1,12 +1,11 @@
 -- The defining equations of D and N.
-use Rattle.std.proofs.Common.{◌≡◌, ℕ, zero, suc, ◌-◌, ◌<◌, ◌≤◌, Bool, true, false, cond, eqb, ltb, List, [], ◌∷◌, ◌++◌, sym, refl, ap, ◌∙◌, ⊎_elim, arith}
-use mathlib.Core.Path.{fun_ext}
-use Rattle.std.specs.List.{range_with_len, flat_map, AllByRecursion as All}
+use Rattle.std.proofs.Common.{◌≡◌, ℕ, zero, suc, ◌-◌, ◌<◌, ◌≤◌, cond, eqb, ltb, List, [], ◌∷◌, ◌++◌, sym, refl, ap, ◌∙◌, ⊎_elim, arith}
+use Rattle.std.specs.List.{range_with_len, flat_map, AllByRecursion}
 use Rattle.std.proofs.lemmas.Bool.{eq-eqb, ne_eqb, cases_eq, lt-ltb, le-ltb, cases_lt}
 use Rattle.logic.specs.Logic.{Logic}
 use Rattle.netlist.specs.Board.{Board}
 use Rattle.signal.specs.Circuit.{gate, gate_count, operate}
-use Rattle.signal.specs.Signal.{Levels, resolved, driven, from_port, drivers, carried, before, N, D, Signals, Defined, SignalDefinition}
+use Rattle.signal.specs.Signal.{Levels, resolved, driven, from_port, carried, before, N, D, Signals, SignalDefinition}
 use Rattle.signal.proofs.Rows.{joined_each, counting_all}
 
 module _ {V : Type 0} (L : Logic V) (C : Board) (S : ℕ → V) (P : ℕ → ℕ → V) where
@@ -82,7 +81,7 @@ module _ {V : Type 0} (L : Logic V) (C : Board) (S : ℕ → V) (P : ℕ → ℕ
         let f' : ℕ → List V = λ g. cond (eqb (gate C g).out n) (D' g t ∷ []) [] in
         let f : ℕ → List V = λ g. cond (eqb (gate C g).out n) (D L C S P g t ∷ []) [] in
         let gs = range_with_len 0 (gate_count C) in
-        let each : All (λ g. f' g ≡ f g) gs = counting_all (λ g. f' g ≡ f g) 0 (gate_count C) (λ g _ lt. ap (λ v. cond (eqb (gate C g).out n) (v ∷ []) []) (gate_same t past g (omega arith))) in
+        let each : AllByRecursion (λ g. f' g ≡ f g) gs = counting_all (λ g. f' g ≡ f g) 0 (gate_count C) (λ g _ lt. ap (λ v. cond (eqb (gate C g).out n) (v ∷ []) []) (gate_same t past g (omega arith))) in
         m.nets n t ∙ ap (λ vs. resolved L (from_port L C S P n t ++ vs)) (joined_each f' f gs each) ∙ sym (n_is n t)
 
     before_only : (t n u : ℕ) → u < t → N' n u ≡ N L C S P n u

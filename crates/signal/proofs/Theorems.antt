@@ -1,13 +1,11 @@
 -- The three laws of any two runs.
-use Rattle.std.proofs.Common.{◌≡◌, ℕ, zero, suc, ◌+◌, ◌-◌, ◌<◌, ◌≤◌, Bool, true, false, not, eqb, leb, ◌↔◌, List, [], ◌∷◌, Some, None, Option, sym, refl, ap, ◌∙◌, subst, arith}
-use Rattle.std.specs.List.{AllByRecursion as All}
+use Rattle.std.proofs.Common.{◌≡◌, ℕ, ◌+◌, ◌-◌, ◌<◌, ◌≤◌, Bool, true, not, eqb, leb, [], ◌∷◌, Some, None, Option, sym, refl, ap, ◌∙◌, subst, arith}
 use Rattle.std.proofs.lemmas.Bool.{eqb-false}
 use Rattle.logic.specs.Logic.{Logic, Laws, RefinedBy}
 use Rattle.netlist.specs.Board.{Board}
 use Rattle.signal.specs.Circuit.{gate_count}
-use Rattle.signal.specs.Signal.{N}
-use Rattle.signal.specs.Calls.{State, Call, Answer, read, shows, refused, opened, lived, level, answer, answers, checks, refusal, first_of}
-use Rattle.signal.specs.Laws.{Life, reached, trace, net, accepts, TracesTell, Learns, Kept, LearningKeeps, Alike, GateOrderHides, ThreeLaws}
+use Rattle.signal.specs.Calls.{State, Call, Answer, read, shows, refused, level, answer, answers, checks, refusal, first_of}
+use Rattle.signal.specs.Laws.{Life, reached, trace, net, TracesTell, LearningKeeps, Alike, GateOrderHides, ThreeLaws}
 use Rattle.signal.proofs.Refining.{n_refines}
 use Rattle.signal.proofs.Orders.{n_same}
 use Rattle.signal.proofs.Pairing.{pairs_shuffle}

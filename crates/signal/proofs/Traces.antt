@@ -1,14 +1,14 @@
 -- Equal traces are equal levels of the watched nets.
-use Rattle.std.proofs.Common.{◌≡◌, ℕ, zero, suc, ◌+◌, ◌-◌, ◌*◌, ◌/◌, ◌%◌, ◌<◌, ◌≤◌, Bool, true, false, cond, eqb, List, [], ◌∷◌, ◌++◌, map, length, get_or, sym, refl, ap, ◌∙◌, subst, append_assoc, arith}
-use Rattle.std.specs.List.{range_with_len, flat_map, AllByRecursion as All}
+use Rattle.std.proofs.Common.{◌≡◌, ℕ, zero, suc, ◌/◌, ◌%◌, ◌<◌, Bool, true, false, cond, eqb, List, [], ◌∷◌, map, sym, refl, ap, ◌∙◌, arith}
+use Rattle.std.specs.List.{range_with_len, flat_map, AllByRecursion}
 use Rattle.std.proofs.ByRecursion.{All-from_get_or}
 use Rattle.std.proofs.lemmas.Bool.{eqb-true}
 use Rattle.logic.specs.Logic.{Logic, Laws}
 use Rattle.netlist.specs.Board.{Board, WellFormed}
-use Rattle.signal.specs.Calls.{State, Change, bytes16, bytes32, change_bytes, level, level_before, change, changes_at, most_ticks}
+use Rattle.signal.specs.Calls.{State, bytes16, change_bytes, level, level_before, change, changes_at}
 use Rattle.signal.proofs.Rows.{joined_each, joined_joined, joined_map, counting_all, all_each, all_both}
 use Rattle.signal.proofs.Lives.{Whole, recorded}
-use Rattle.signal.proofs.Decoding.{Slot, heading, out, slots, decode, up_from, rising_all, slots_apart, at_tick}
+use Rattle.signal.proofs.Decoding.{Slot, out, slots, decode, up_from, rising_all, slots_apart, at_tick}
 
 module _ {V : Type 0} {L : Logic V} (laws : Laws L) where
   -- what a slot adds to the trace of a run
@@ -78,20 +78,20 @@ module _ {V : Type 0} {L : Logic V} (laws : Laws L) where
             let bytes : bytes16 (L.code v) ≡ bytes16 (L.code v') = cc in
             laws.code_equal v v' (code_bytes (L.code v) (L.code v') (laws.code_fits v) (laws.code_fits v') bytes)
 
-    rows : ((t : ℕ) → t < s.ticks → All (λ n. adds C s (t, n) ≡ adds C' s' (t, n)) C.watches) → (t : ℕ) → t < s.ticks → All (λ n. level L C s n t ≡ level L C' s' n t) C.watches
+    rows : ((t : ℕ) → t < s.ticks → AllByRecursion (λ n. adds C s (t, n) ≡ adds C' s' (t, n)) C.watches) → (t : ℕ) → t < s.ticks → AllByRecursion (λ n. level L C s n t ≡ level L C' s' n t) C.watches
     rows h zero lt = all_both (λ n. Unit {0}) (λ n. adds C s (0, n) ≡ adds C' s' (0, n)) (λ n. level L C s n 0 ≡ level L C' s' n 0) (λ n _ e. step 0 n refl e) C.watches (all_each (λ n. Unit {0}) (λ n. tt) C.watches) (h 0 lt)
     rows h (suc t) lt =
         all_both (λ n. level L C s n t ≡ level L C' s' n t) (λ n. adds C s (suc t, n) ≡ adds C' s' (suc t, n)) (λ n. level L C s n (suc t) ≡ level L C' s' n (suc t))
         (λ n was e. step (suc t) n was e) C.watches (rows h t (omega arith)) (h (suc t) lt)
 
-    pub levels_from_traces : WellFormed C → recorded s ≡ recorded s' → (t : ℕ) → t < s.ticks → All (λ n. level L C s n t ≡ level L C' s' n t) C.watches
+    pub levels_from_traces : WellFormed C → recorded s ≡ recorded s' → (t : ℕ) → t < s.ticks → AllByRecursion (λ n. level L C s n t ≡ level L C' s' n t) C.watches
     unfolding adds stays shown
     levels_from_traces ok e =
         let here : flat_map (adds C s) (slots C.watches 0 s.ticks) ≡ flat_map (adds C' s') (slots C.watches 0 s.ticks) =
         sym (trace_adds C s w) ∙ e ∙ trace_adds C' s' w'
         ∙ ap (λ ws. flat_map (adds C' s') (slots ws 0 s'.ticks)) (sym same-watch)
         ∙ ap (λ m. flat_map (adds C' s') (slots C.watches 0 m)) (sym same-ticks) in
-        let below : All (λ n. n < 65536) C.watches = All-from_get_or (λ n. n < 65536) C.watches 0 (λ i lt. omega (arith, ok.below i lt, ok.nets)) in
+        let below : AllByRecursion (λ n. n < 65536) C.watches = All-from_get_or (λ n. n < 65536) C.watches 0 (λ i lt. omega (arith, ok.below i lt, ok.nets)) in
         let apart = slots_apart C.watches (up_from C.watches (rising_all C.watches ok.rising)) below 0 s.ticks (omega (arith, w.early)) in
         let each = decode (stays C s, shown C s) (stays C' s', shown C' s') (slots C.watches 0 s.ticks) apart here in
         rows (λ t lt. at_tick (λ k. adds C s k ≡ adds C' s' k) C.watches 0 s.ticks each t (omega arith) (omega arith))
@@ -101,13 +101,13 @@ module _ {V : Type 0} {L : Logic V} (laws : Laws L) where
         ap (λ v. cond (eqb (L.code v) (L.code (level_before L C s n t))) [] (record { tick = t; net = n; code = L.code v } ∷ [])) is
         ∙ ap (λ v. cond (eqb (L.code (level L C' s' n t)) (L.code v)) [] (record { tick = t; net = n; code = L.code (level L C' s' n t) } ∷ [])) was
 
-    row_same : ((t : ℕ) → t < s.ticks → All (λ n. level L C s n t ≡ level L C' s' n t) C.watches) → (t : ℕ) → t < s.ticks → All (λ n. change L C s t n ≡ change L C' s' t n) C.watches
+    row_same : ((t : ℕ) → t < s.ticks → AllByRecursion (λ n. level L C s n t ≡ level L C' s' n t) C.watches) → (t : ℕ) → t < s.ticks → AllByRecursion (λ n. change L C s t n ≡ change L C' s' t n) C.watches
     row_same h zero lt = all_both (λ n. Unit {0}) (λ n. level L C s n 0 ≡ level L C' s' n 0) (λ n. change L C s 0 n ≡ change L C' s' 0 n) (λ n _ e. changed_same 0 n e refl) C.watches (all_each (λ n. Unit {0}) (λ n. tt) C.watches) (h 0 lt)
     row_same h (suc t) lt =
         all_both (λ n. level L C s n t ≡ level L C' s' n t) (λ n. level L C s n (suc t) ≡ level L C' s' n (suc t)) (λ n. change L C s (suc t) n ≡ change L C' s' (suc t) n)
         (λ n was e. changed_same (suc t) n e was) C.watches (h t (omega arith)) (h (suc t) lt)
 
-    pub traces_from_levels : ((t : ℕ) → t < s.ticks → All (λ n. level L C s n t ≡ level L C' s' n t) C.watches) → recorded s ≡ recorded s'
+    pub traces_from_levels : ((t : ℕ) → t < s.ticks → AllByRecursion (λ n. level L C s n t ≡ level L C' s' n t) C.watches) → recorded s ≡ recorded s'
     traces_from_levels h =
         let ts = range_with_len 0 s.ticks in
         let tick : (t : ℕ) → t < s.ticks → changes_at L C s t ≡ flat_map (change L C' s' t) C.watches = λ t lt. joined_each (change L C s t) (change L C' s' t) C.watches (row_same h t lt) in

@@ -2,9 +2,9 @@
 --
 -- A make of runs has a type R, and `has C s x` says that the run x, opened on the board C, has come to the state s.
 use Rattle.std.specs.Prelude.{◌≡◌, ℕ, ◌+◌, ◌<◌, Bool, true, ◌↔◌, List, [], ◌∷◌, ◌++◌, ◌≢◌}
-use Rattle.std.specs.List.{flat_map, AllByRecursion as All}
-use Rattle.logic.specs.Logic.{Logic, Laws, RefinedBy}
-use Rattle.netlist.specs.Board.{Board, WellFormed}
+use Rattle.std.specs.List.{flat_map, AllByRecursion}
+use Rattle.logic.specs.Logic.{Logic, RefinedBy}
+use Rattle.netlist.specs.Board.{Board}
 use Rattle.signal.specs.Calls.{State, Call, Answer, refused, read, opened, after, answer, replies, wrote}
 use Rattle.signal.specs.Laws.{Life, reached, net, Learns, Alike}
 
@@ -32,7 +32,7 @@ module _ {V : Type 0} (L : Logic V) {R Q : Type 0} (has : Board → State V → 
   pub record Between (r q : Life) (x : R) (y : Q) (us vs : List Answer) : Type 0 where
     -- 1. Equal traces tell equal levels.
     pub traces : r.board.watches ≡ q.board.watches → (reached L r).ticks ≡ (reached L q).ticks →
-        flat_map wrote us ≡ flat_map wrote vs ↔ ((t : ℕ) → t < (reached L r).ticks → All (λ n. net L r n t ≡ net L q n t) r.board.watches)
+        flat_map wrote us ≡ flat_map wrote vs ↔ ((t : ℕ) → t < (reached L r).ticks → AllByRecursion (λ n. net L r n t ≡ net L q n t) r.board.watches)
     -- 2. Learning takes no definite level back, and where t is the last tick of both, a read of each answers it alike.
     pub learning : (t : ℕ) → r.board ≡ q.board → t < (reached L r).ticks → t < (reached L q).ticks → Learns L r q t → (n : ℕ) →
         RefinedBy L (net L r n t) (net L q n t)

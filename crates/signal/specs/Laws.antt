@@ -1,8 +1,8 @@
 -- What holds of any two runs, over every logic family that shows the laws.
 use Rattle.std.specs.Prelude.{◌≡◌, ℕ, ◌+◌, ◌<◌, ◌≤◌, Bool, true, ◌↔◌, List, None}
-use Rattle.std.specs.List.{flat_map, AllByRecursion as All}
+use Rattle.std.specs.List.{flat_map, AllByRecursion}
 use Rattle.std.specs.List.Sorted.{IsPermutation}
-use Rattle.logic.specs.Logic.{Logic, Laws, RefinedBy}
+use Rattle.logic.specs.Logic.{Logic, RefinedBy}
 use Rattle.netlist.specs.Board.{Board, WellFormed}
 use Rattle.signal.specs.Circuit.{gate, gate_count}
 use Rattle.signal.specs.Signal.{started}
@@ -38,7 +38,7 @@ module _ {V : Type 0} (L : Logic V) where
   abbrev pub TracesTell : Type 0
   TracesTell =
       (r q : Life) → r.board.watches ≡ q.board.watches → (reached r).ticks ≡ (reached q).ticks →
-      trace r ≡ trace q ↔ ((t : ℕ) → t < (reached r).ticks → All (λ n. net r n t ≡ net q n t) r.board.watches)
+      trace r ≡ trace q ↔ ((t : ℕ) → t < (reached r).ticks → AllByRecursion (λ n. net r n t ≡ net q n t) r.board.watches)
 
   -- ---- 2. Learning takes no definite level back.
 

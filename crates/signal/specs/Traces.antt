@@ -1,5 +1,5 @@
 -- Which records a trace has, in which order, and where an advance stops.
-use Rattle.std.specs.Prelude.{◌≡◌, ℕ, ◌+◌, ◌-◌, ◌*◌, ◌<◌, ◌≤◌, Bool, ◌⊎◌, ◌↔◌, List, [], ◌∷◌, ◌++◌, length}
+use Rattle.std.specs.Prelude.{◌≡◌, ℕ, ◌-◌, ◌*◌, ◌<◌, ◌≤◌, Bool, ◌⊎◌, ◌↔◌, List, ◌++◌, length}
 use Rattle.std.specs.List.{range_with_len, flat_map, ContainsAt as Has}
 use Rattle.logic.specs.Logic.{Logic}
 use Rattle.netlist.specs.Board.{Board}

@@ -1,4 +1,4 @@
-use Rattle.std.proofs.Common.{eqb, refl, ap, ◌∙◌}
+use Rattle.std.proofs.Common.{eqb, ap, ◌∙◌}
 use Rattle.signal.proofs.Handling.{any_run, any_two_runs}
 use Rattle.signal.proofs.equally_far.Goals as goal
 

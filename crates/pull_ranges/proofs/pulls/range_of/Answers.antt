@@ -1,4 +1,4 @@
-use Rattle.std.proofs.Common.{sym, refl, rules}
+use Rattle.std.proofs.Common.{sym, refl}
 use Rattle.pull_ranges.specs.Ranges.{range_back}
 use Rattle.pull_ranges.proofs.pulls.range_of.Goals as goal
 

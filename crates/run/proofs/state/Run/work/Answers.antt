@@ -9,10 +9,11 @@ pub invariant_of-self-4 : goal.invariant_of-self-4
 invariant_of-self-4 g c =
     let x = c.args.self.now in
     let wrote = roomy g.F.Family.logic x.wiring.net x.levels c.settle-levels.result x.ticks c.args.at c.args.out.now c.report-end.result c.report-end.new.out c.requires.room c.report-end.ensures in
-    let bytes = bytes_few g.F.Family.logic (contents x.wiring.net) x.levels c.settle-levels.result x.ticks (contents x.wiring.net).watches in (
-      omega (arith, c.requires.early),
-      (few_more x.records x.ticks c.args.at c.report-end.result _ x.few wrote.count (omega (arith, bytes, watch_count x.wiring.net, x.wiring.net.list, x.wiring.net.nets)), tt),
-    )
+    let bytes = bytes_few g.F.Family.logic (contents x.wiring.net) x.levels c.settle-levels.result x.ticks (contents x.wiring.net).watches in
+    record {
+      early = omega (arith, c.requires.early);
+      few = few_more x.records x.ticks c.args.at c.report-end.result _ x.few wrote.count (omega (arith, bytes, watch_count x.wiring.net, x.wiring.net.list, x.wiring.net.nets));
+    }
 
 pub returns : goal.returns
 returns g c =

@@ -1,4 +1,4 @@
-use Rattle.std.proofs.Common.{◌≡◌, refl, ◌∙◌, arith}
+use Rattle.std.proofs.Common.{refl, ◌∙◌, arith}
 use Rattle.calendar.specs.Agenda.{with_waiting}
 use Rattle.netlist.specs.Looked.{contents}
 use Rattle.netlist.proofs.Contents.{watch_count}
@@ -14,10 +14,11 @@ invariant_of-self-2 g c =
     let net = x.wiring.net in
     let levels = c.work_changed.new.levels in
     let wrote = roomy g.F.Family.logic net x.levels levels x.ticks c.args.at c.args.out.now c.report-end.result c.report-end.new.out c.requires.room c.report-end.ensures in
-    let bytes = bytes_few g.F.Family.logic (contents net) x.levels levels x.ticks (contents net).watches in (
-      omega (arith, c.requires.early),
-      (few_more x.records x.ticks c.args.at c.report-end.result _ x.few wrote.count (omega (arith, bytes, watch_count net, net.list, net.nets)), tt),
-    )
+    let bytes = bytes_few g.F.Family.logic (contents net) x.levels levels x.ticks (contents net).watches in
+    record {
+      early = omega (arith, c.requires.early);
+      few = few_more x.records x.ticks c.args.at c.report-end.result _ x.few wrote.count (omega (arith, bytes, watch_count net, net.list, net.nets));
+    }
 
 pub returns : goal.returns
 returns g c =
