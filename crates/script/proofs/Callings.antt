@@ -10,26 +10,24 @@ use Rattle.logic.specs.Logic.{Logic, Laws}
 use Rattle.logic.specs.Naming.{NamingLaws}
 use Rattle.calendar.specs.declared.calendar.Calendar.{Ghosts as Calendar}
 use Rattle.netlist.specs.Board.{Board, WellFormed}
-use Rattle.netlist.specs.Looked.{contents}
 use Rattle.netlist.proofs.Contents.{well_formed}
 use Rattle.signal.specs.Circuit.{gate_count}
 use Rattle.signal.specs.Calls.{level, completes, written, change_bytes, State, Call, Answer, wake, drive, advance, read, done, advanced, shows, refused, first_of, refusal, leaves, answers, after, answer, wrote}
 use Rattle.run.specs.declared.state.Run.{Run}
 use Rattle.run.specs.declared.state.RunFault.{RunFault}
 use Rattle.run.specs.Faults as run
-use Rattle.run.specs.Calls.{Has, Called, told, told_level, told_trace, behind, Waked, Driven, Advanced, Reads}
+use Rattle.run.specs.Calls.{Has, Called, told, told_level, told_trace, behind, Advanced, Reads}
 use Rattle.script_text.specs.declared.command.Command.{Command}
-use Rattle.script_text.specs.declared.command.Command.TheVariants.{Wake, Drive, Advance, Read}
+use Rattle.script_text.specs.declared.command.Command.TheVariants.{Advance, Read}
 use Rattle.script_text.specs.Laid.{Wrote, Lays}
 use Rattle.script_text.specs.Texts.{ok_text, level_text, trace_text}
 use Rattle.script_text.proofs.Over.{lays_whole}
 use Rattle.script.proofs.Lines.{name_short, in_time, written_plain, trace_lines, advance_short}
-use Rattle.script.specs.Faults.{at_line, noted}
+use Rattle.script.specs.Faults.{at_line}
 use Rattle.script_text.specs.Commands.{name_of}
 use Rattle.script_text.specs.Texts.{certainty}
-use Rattle.script.specs.Answers.{call_of, fronted, granted, fault_of, Obeys, most_trace}
+use Rattle.script.specs.Answers.{call_of, fronted, granted, Obeys, most_trace}
 use Rattle.script.specs.declared.fault.AtLine.{AtLine}
-use Rattle.script.specs.declared.fault.ScriptFault.{ScriptFault}
 use Rattle.script.specs.declared.fault.ScriptFault.TheVariants.{Refused}
 
 -- ---- a call's result beside its line
@@ -169,20 +167,20 @@ fronted_is trace trace' bytes n long front rest =
 -- ---- the contract of a command, from that of a call
 
 module _ {F D V : Type 0} (f : Family F V) (c : Calendar D) where
-  pub kept_rules : (C : Board) (s : State V) (x : Run F D V) → Has f c C s x → WellFormed C
+  pub kept_rules : (C : Board) (s : State V) (x : Run F D V f c) → Has f c C s x → WellFormed C
   kept_rules C s x h = subst WellFormed h.board (well_formed x.wiring.net)
 
   -- two calls come to the same for every state that the run has come to
-  abbrev pub Interchange : Run F D V → Call → Call → Type 0
+  abbrev pub Interchange : Run F D V f c → Call → Call → Type 0
   Interchange x d e = (C : Board) (s : State V) → Has f c C s x → Alike f.logic C s d e
 
-  pub swapped : (x y : Run F D V) (d e : Call) (a : Answer) → Interchange x d e → Called f c d x y a → Called f c e x y a
+  pub swapped : (x y : Run F D V f c) (d e : Call) (a : Answer) → Interchange x d e → Called f c d x y a → Called f c e x y a
   swapped x y d e a same called C s h =
       let r = called C s h in
       let w = same C s h in
       (subst (λ t. Has f c C t y) w.same_after r.0, r.1 ∙ w.same_answer)
 
-module _ {F D V : Type 0} (f : Family F V) (n : Named F V) (c : Calendar D) (line : ℕ) (k : Command) (x y : Run F D V) (out trace : List ℕ) where
+module _ {F D V : Type 0} (f : Family F V) (n : Named F V) (c : Calendar D) (line : ℕ) (k : Command) (x y : Run F D V f c) (out trace : List ℕ) where
   pub obeys_refused : (e : RunFault) (trace' : List ℕ) → Called f c (call_of k) x y (refused (run.number e) (run.place e)) → (y ≡ x) × (trace' ≡ trace) →
       Obeys f n c line k x out trace y out trace' (Err (Refused line e))
   obeys_refused e trace' called same = record {
@@ -209,7 +207,7 @@ module _ {F D V : Type 0} (f : Family F V) (n : Named F V) (c : Calendar D) (lin
 
 -- ---- wake and drive, advance, read
 
-module _ {F D V : Type 0} (f : Family F V) (n : Named F V) (c : Calendar D) (line : ℕ) (k : Command) (d : Call) (x y : Run F D V) (w : Result (Unit {0}) RunFault)
+module _ {F D V : Type 0} (f : Family F V) (n : Named F V) (c : Calendar D) (line : ℕ) (k : Command) (d : Call) (x y : Run F D V f c) (w : Result (Unit {0}) RunFault)
     (called : Called f c d x y (told w)) (unchanged : (e : RunFault) → w ≡ Err e → y ≡ x) (same : Interchange f c x d (call_of k)) (out trace : List ℕ) where
   pub set_err : (e : AtLine) → at_line line w ≡ Err e → Obeys f n c line k x out trace y out trace (Err (Refused e.line e.fault))
   set_err e is =
@@ -227,7 +225,7 @@ module _ {F D V : Type 0} (f : Family F V) (n : Named F V) (c : Calendar D) (lin
       (λ C s h none a. subst (λ t. Wrote out 0 t m out') (sym (text C s)) (lays_whole ok_text (omega arith) lays))
       (λ C s h. refl)
 
-module _ {F D V : Type 0} (f : Family F V) (n : Named F V) (c : Calendar D) (line : ℕ) (x : Run F D V) (w : Result (ℕ × Bool) RunFault) (net m : ℕ)
+module _ {F D V : Type 0} (f : Family F V) (n : Named F V) (c : Calendar D) (line : ℕ) (x : Run F D V f c) (w : Result (ℕ × Bool) RunFault) (net m : ℕ)
     (is : m ≡ min net 65535) (reads : Reads f c x m w) (out trace : List ℕ) where
   read_called : Called f c (read net) x x (told_level w)
   read_called =
@@ -265,7 +263,7 @@ module _ {F D V : Type 0} (f : Family F V) (n : Named F V) (c : Calendar D) (lin
           let fits : 0 + length (level_text L n.naming code definite) ≤ length out = omega arith in
           subst (λ t. Wrote out 0 t end out') (λ i. level_text L n.naming (coded i) (known i)) (lays_whole (level_text L n.naming code definite) fits lays)
 
-module _ {F D V : Type 0} (f : Family F V) (n : Named F V) (c : Calendar D) (line : ℕ) (x y : Run F D V) (w : Result (ℕ × ℕ) RunFault) (ticks : ℕ) (out trace trace' : List ℕ)
+module _ {F D V : Type 0} (f : Family F V) (n : Named F V) (c : Calendar D) (line : ℕ) (x y : Run F D V f c) (w : Result (ℕ × ℕ) RunFault) (ticks : ℕ) (out trace trace' : List ℕ)
     (long : length trace ≡ 16384) (works : Advanced f c x ticks trace y trace' w) where
   advance_called : Called f c (advance ticks most_trace) x y (told_trace w trace')
   advance_called =

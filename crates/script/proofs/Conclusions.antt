@@ -1,5 +1,5 @@
 -- A whole line, from its parts.
-use Rattle.std.proofs.Common.{◌≡◌, ℕ, ◌+◌, ◌≤◌, Bool, true, false, ◌&&◌, eqb, leb, List, [], length, Some, None, Ok, Err, Option, sym, refl, ap, ◌∙◌, subst, arith}
+use Rattle.std.proofs.Common.{◌≡◌, ℕ, ◌≤◌, true, false, eqb, leb, List, length, Some, None, Ok, Err, Option, sym, refl, ap, subst, arith}
 use Rattle.std.specs.Option.{option_map}
 use Rattle.std.proofs.lemmas.Bool.{and_parts, leb-true, both_ways}
 use Rattle.logic.specs.declared.family.Family.{Ghosts as Family}
@@ -13,12 +13,12 @@ use Rattle.script_text.specs.declared.command.Command.{Command}
 use Rattle.script_text.specs.Commands.{command}
 use Rattle.script_text.specs.Laid.{Wrote, Lays}
 use Rattle.script_text.proofs.Over.{lays_whole}
-use Rattle.script.specs.Faults.{Note, noted}
-use Rattle.script.specs.Answers.{roomy, most_trace, note_text, fronted, granted, fault_of, line_fault, line_text, line_after, line_wrote, Obeys, LineAnswered, Answered}
+use Rattle.script.specs.Faults.{noted}
+use Rattle.script.specs.Answers.{roomy, most_trace, note_text, fronted, granted, line_fault, line_text, line_after, line_wrote, Obeys, Answered}
 use Rattle.script.specs.declared.fault.ScriptFault.{ScriptFault}
 use Rattle.script.specs.declared.fault.ScriptFault.TheVariants.{SmallBuffers, NoCommand}
 
-module _ {F D V : Type 0} (f : Family F V) (n : Named F V) (c : Calendar D) (x : Run F D V) (line : List ℕ) (number : ℕ) (out trace : List ℕ) where
+module _ {F D V : Type 0} (f : Family F V) (n : Named F V) (c : Calendar D) (x : Run F D V f c) (line : List ℕ) (number : ℕ) (out trace : List ℕ) where
   pub small_answer : roomy out trace ≡ false → Answered f n c x line number out trace x out trace (0, Some (SmallBuffers number))
   small_answer short = record {
     small = λ e. (refl, refl);
@@ -31,14 +31,14 @@ module _ {F D V : Type 0} (f : Family F V) (n : Named F V) (c : Calendar D) (x :
     room = leb-true 40000 (length out) (and_parts (leb 40000 (length out)) (eqb (length trace) most_trace) yes).0
 
     -- a line that says the command o, if it says one
-    abbrev Told : Option Command → Run F D V → List ℕ → List ℕ → ℕ × Option ScriptFault → Type 0
+    abbrev Told : Option Command → Run F D V f c → List ℕ → List ℕ → ℕ × Option ScriptFault → Type 0
     Told o y out' trace' r = (C : Board) (s : State V) → Has f c C s x →
         Has f c C (line_after f.logic n.naming C s o) y
         × Wrote out 0 (line_text f.logic n.naming C s number o) r.0 out'
         × (option_map noted r.1 ≡ line_fault f.logic n.naming C s number o)
         × (trace' ≡ fronted trace (line_wrote f.logic n.naming C s o))
 
-    whole : (o : Option Command) → command f.logic n.naming line ≡ o → (y : Run F D V) (out' trace' : List ℕ) (r : ℕ × Option ScriptFault) → Told o y out' trace' r →
+    whole : (o : Option Command) → command f.logic n.naming line ≡ o → (y : Run F D V f c) (out' trace' : List ℕ) (r : ℕ × Option ScriptFault) → Told o y out' trace' r →
         ((e : ScriptFault) → r.1 ≡ Some e → (y ≡ x) × (trace' ≡ trace)) → Answered f n c x line number out trace y out' trace' r
     whole o is y out' trace' r told same = record {
       small = λ e. absurd (both_ways (roomy out trace) e yes);
@@ -55,7 +55,7 @@ module _ {F D V : Type 0} (f : Family F V) (n : Named F V) (c : Calendar D) (x :
         (λ C s h. (h, lays_whole (note_text (noted (NoCommand number))) (omega (arith, room)) lays, refl, refl))
         (λ e q. (refl, refl))
 
-    pub ok_answer : (k : Command) → command f.logic n.naming line ≡ Some k → (y : Run F D V) (out' trace' : List ℕ) (end : ℕ) → Obeys f n c number k x out trace y out' trace' (Ok end) →
+    pub ok_answer : (k : Command) → command f.logic n.naming line ≡ Some k → (y : Run F D V f c) (out' trace' : List ℕ) (end : ℕ) → Obeys f n c number k x out trace y out' trace' (Ok end) →
         Answered f n c x line number out trace y out' trace' (end, None)
     ok_answer k is y out' trace' end obeys =
         whole (Some k) is y out' trace' (end, None)
@@ -68,7 +68,7 @@ module _ {F D V : Type 0} (f : Family F V) (n : Named F V) (c : Calendar D) (x :
         ))
         (λ e q. absurd (let z : ◌≡◌ {A = ℕ} 0 1 = cc in omega arith))
 
-    pub err_answer : (k : Command) → command f.logic n.naming line ≡ Some k → (y : Run F D V) (mid trace' : List ℕ) (e : ScriptFault) → Obeys f n c number k x out trace y mid trace' (Err e) →
+    pub err_answer : (k : Command) → command f.logic n.naming line ≡ Some k → (y : Run F D V f c) (mid trace' : List ℕ) (e : ScriptFault) → Obeys f n c number k x out trace y mid trace' (Err e) →
         (end : ℕ) (out' : List ℕ) → Lays mid 0 (note_text (noted e)) end out' → length (note_text (noted e)) ≤ 100 → Answered f n c x line number out trace y out' trace' (end, Some e)
     err_answer k is y mid trace' e obeys end out' lays short =
         let same = obeys.unchanged e refl in

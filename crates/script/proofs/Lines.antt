@@ -1,5 +1,5 @@
 -- The lines of an advance: a trace that is read back gives the records of the definition, and 40,000 bytes have room for them.
-use Rattle.std.proofs.Common.{◌≡◌, ℕ, zero, suc, ◌+◌, ◌-◌, ◌*◌, ◌/◌, ◌%◌, ◌^◌, ◌<◌, ◌≤◌, Bool, true, false, cond, not, eqb, ltb, List, [], ◌∷◌, ◌++◌, length, get_or, Some, None, decimal, sym, refl, ap, ◌∙◌, subst, append_assoc, arith, length-append}
+use Rattle.std.proofs.Common.{◌≡◌, ℕ, zero, suc, ◌+◌, ◌*◌, ◌/◌, ◌%◌, ◌<◌, ◌≤◌, Bool, true, false, cond, not, eqb, ltb, List, [], ◌∷◌, ◌++◌, length, get_or, Some, None, decimal, sym, refl, ap, ◌∙◌, append_assoc, arith, length-append}
 use Rattle.std.specs.List.{range_with_len, flat_map, AllByRecursion}
 use Rattle.std.proofs.lemmas.Fmt.{length-decimal-le}
 use Rattle.std.proofs.ByRecursion.{All-append, All-weaker, All-from_get_or}
@@ -8,7 +8,7 @@ use Rattle.std.proofs.lemmas.Bool.{ltb-false}
 use Rattle.logic.specs.Logic.{Logic, Laws}
 use Rattle.logic.specs.Naming.{Naming, NamingLaws}
 use Rattle.netlist.specs.Board.{Board, WellFormed}
-use Rattle.signal.specs.Calls.{State, Change, change_bytes, advance, level, level_before, change, changes_at, completes, written, first_of, checks, refusal, most_ticks, tick_room}
+use Rattle.signal.specs.Calls.{State, Change, change_bytes, advance, level, level_before, change, changes_at, completes, written, first_of, refusal, most_ticks, tick_room}
 use Rattle.signal.proofs.Advancing.{length_bytes}
 use Rattle.signal.proofs.Recording.{stops}
 use Rattle.signal.proofs.Rows.{counting_all}

@@ -1,5 +1,5 @@
 -- What a line of a script does and answers, by the signal definition.
-use Rattle.std.specs.Prelude.{◌≡◌, ℕ, ◌+◌, ◌-◌, ◌<◌, ◌≤◌, Bool, true, false, ◌&&◌, List, [], ◌++◌, length, drop, Some, None, Ok, Err, Option, Result, ◌==◌, nat_le}
+use Rattle.std.specs.Prelude.{◌≡◌, ℕ, ◌-◌, Bool, true, false, ◌&&◌, List, [], ◌++◌, length, drop, Some, None, Ok, Err, Option, Result, ◌==◌, nat_le}
 use Rattle.std.specs.List.{flat_map}
 use Rattle.std.specs.Option.{option_map}
 use Rattle.logic.specs.declared.family.Family.{Ghosts as Family}
@@ -84,7 +84,7 @@ module _ {V : Type 0} (L : Logic V) (N : Naming V) (C : Board) (s : State V) whe
 
 module _ {F D V : Type 0} (f : Family F V) (n : Named F V) (c : Calendar D) where
   -- a command: what it answers and leaves for every state that the run has come to; a refusal leaves all as it was
-  pub record Obeys (line : ℕ) (k : Command) (x : Run F D V) (out trace : List ℕ) (y : Run F D V) (out' trace' : List ℕ) (r : Result ℕ ScriptFault) : Type 0 where
+  pub record Obeys (line : ℕ) (k : Command) (x : Run F D V f c) (out trace : List ℕ) (y : Run F D V f c) (out' trace' : List ℕ) (r : Result ℕ ScriptFault) : Type 0 where
     pub goes_on : (C : Board) (s : State V) → Has f c C s x → Has f c C (after f.logic C s (call_of k)) y
     pub replies : (C : Board) (s : State V) → Has f c C s x → Replies f.logic n.naming C s line k out out' r
     pub traces : (C : Board) (s : State V) → Has f c C s x → trace' ≡ fronted trace (wrote (answer f.logic C s (call_of k)))
@@ -92,13 +92,13 @@ module _ {F D V : Type 0} (f : Family F V) (n : Named F V) (c : Calendar D) wher
 
   -- A line, for every state that the run has come to: the run goes on by its call, the answer is written from the start of the output
   -- buffer and its bytes are counted, the fault is the definition's, and the trace buffer has the advance's bytes at its front.
-  pub record LineAnswered (C : Board) (s : State V) (line : List ℕ) (number : ℕ) (out trace : List ℕ) (y : Run F D V) (out' trace' : List ℕ) (r : ℕ × Option ScriptFault) : Type 0 where
+  pub record LineAnswered (C : Board) (s : State V) (line : List ℕ) (number : ℕ) (out trace : List ℕ) (y : Run F D V f c) (out' trace' : List ℕ) (r : ℕ × Option ScriptFault) : Type 0 where
     pub goes_on : Has f c C (line_after f.logic n.naming C s (command f.logic n.naming line)) y
     pub text : Wrote out 0 (line_text f.logic n.naming C s number (command f.logic n.naming line)) r.0 out'
     pub fault : option_map noted r.1 ≡ line_fault f.logic n.naming C s number (command f.logic n.naming line)
     pub traces : trace' ≡ fronted trace (line_wrote f.logic n.naming C s (command f.logic n.naming line))
 
-  pub record Answered (x : Run F D V) (line : List ℕ) (number : ℕ) (out trace : List ℕ) (y : Run F D V) (out' trace' : List ℕ) (r : ℕ × Option ScriptFault) : Type 0 where
+  pub record Answered (x : Run F D V f c) (line : List ℕ) (number : ℕ) (out trace : List ℕ) (y : Run F D V f c) (out' trace' : List ℕ) (r : ℕ × Option ScriptFault) : Type 0 where
     -- 24: nothing is written
     pub small : roomy out trace ≡ false → (r ≡ (0, Some (SmallBuffers number))) × (out' ≡ out)
     pub answered : roomy out trace ≡ true → (C : Board) (s : State V) → Has f c C s x → LineAnswered C s line number out trace y out' trace' r

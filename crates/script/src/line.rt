@@ -22,7 +22,7 @@ pub fn answer_line<F: Named, C: Calendar>(
     out: &mut [u8],
     trace: &mut [u8],
 ) -> (usize, Option<ScriptFault>)
-    ensures { Answered F.Family F.Named C.Calendar run.old line.now number out.old trace.old run.new out.new trace.new result }
+    ensures { Answered F.Family F.Named.own C.Calendar run.old line.now number out.old trace.old run.new out.new trace.new result }
 {
     let fit = buffers_fit(out, trace);
     if !fit {
@@ -67,7 +67,7 @@ fn obey<F: Named, C: Calendar>(
     trace: &mut [u8],
 ) -> Result<usize, ScriptFault>
     requires { (40000 ≤ length out.old) × (length trace.old ≡ 16384) }
-    ensures { Obeys F.Family F.Named C.Calendar line command run.old out.old trace.old run.new out.new trace.new result }
+    ensures { Obeys F.Family F.Named.own C.Calendar line command run.old out.old trace.old run.new out.new trace.new result }
 {
     match command {
         Command::Wake(gate, code) => wake(run, gate, code, line, out),
@@ -85,7 +85,7 @@ fn wake<F: Named, C: Calendar>(
     out: &mut [u8],
 ) -> Result<usize, ScriptFault>
     requires { 40000 ≤ length out.old }
-    ensures { (trace : List ℕ) → Obeys F.Family F.Named C.Calendar line (Wake gate code) run.old out.old trace run.new out.new trace result }
+    ensures { (trace : List ℕ) → Obeys F.Family F.Named.own C.Calendar line (Wake gate code) run.old out.old trace run.new out.new trace result }
 {
     at_line(run.wake(narrow(gate), code), line)?;
     Ok(say_ok(out))
@@ -99,7 +99,7 @@ fn drive<F: Named, C: Calendar>(
     out: &mut [u8],
 ) -> Result<usize, ScriptFault>
     requires { 40000 ≤ length out.old }
-    ensures { (trace : List ℕ) → Obeys F.Family F.Named C.Calendar line (Drive port code) run.old out.old trace run.new out.new trace result }
+    ensures { (trace : List ℕ) → Obeys F.Family F.Named.own C.Calendar line (Drive port code) run.old out.old trace run.new out.new trace result }
 {
     at_line(run.drive(narrow(port), code), line)?;
     Ok(say_ok(out))
@@ -113,7 +113,7 @@ fn advance<F: Named, C: Calendar>(
     trace: &mut [u8],
 ) -> Result<usize, ScriptFault>
     requires { (40000 ≤ length out.old) × (length trace.old ≡ 16384) }
-    ensures { Obeys F.Family F.Named C.Calendar line (Advance ticks) run.old out.old trace.old run.new out.new trace.new result }
+    ensures { Obeys F.Family F.Named.own C.Calendar line (Advance ticks) run.old out.old trace.old run.new out.new trace.new result }
 {
     let (done, bytes) = at_line(run.advance(ticks, trace), line)?;
     Ok(say_trace::<F>(out, front(trace, bytes), done))
@@ -126,7 +126,7 @@ fn read<F: Named, C: Calendar>(
     out: &mut [u8],
 ) -> Result<usize, ScriptFault>
     requires { 40000 ≤ length out.old }
-    ensures { (trace : List ℕ) → Obeys F.Family F.Named C.Calendar line (Read net) run.now out.old trace run.now out.new trace result }
+    ensures { (trace : List ℕ) → Obeys F.Family F.Named.own C.Calendar line (Read net) run.now out.old trace run.now out.new trace result }
 {
     let (code, definite) = at_line(run.read(narrow(net)), line)?;
     Ok(say_level::<F>(out, code, definite))

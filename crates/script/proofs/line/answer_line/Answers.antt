@@ -1,5 +1,5 @@
-use Rattle.std.proofs.Common.{◌≡◌, ℕ, ◌≤◌, true, false, eqb, leb, length, Some, None, Ok, Err, sym, refl, ap, ◌∙◌, subst, arith, rules}
-use Rattle.std.proofs.lemmas.Bool.{and_parts, leb-true, eqb-true, both_ways}
+use Rattle.std.proofs.Common.{◌≡◌, ◌≤◌, eqb, leb, length, sym, ◌∙◌, rules}
+use Rattle.std.proofs.lemmas.Bool.{and_parts, leb-true, eqb-true}
 use Rattle.script.proofs.Conclusions.{small_answer, none_answer, ok_answer, err_answer}
 use Rattle.script.proofs.line.answer_line.Goals as goal
 
