@@ -1,4 +1,4 @@
-use Rattle.std.proofs.Common.{◌≡◌, ◌<◌, ◌≤◌, [], ◌∷◌, ◌++◌, length, take, sym, ◌∙◌, arith, length-append}
+use Rattle.std.proofs.Common.{◌<◌, [], ◌∷◌, ◌++◌, length, take, sym, ◌∙◌, arith, length-append}
 use Rattle.std.proofs.lemmas.List.{take_more_set, take_all, take-append-le, length-take-le}
 use Rattle.script_stream.proofs.held.Held.push.Goals as goal
 
