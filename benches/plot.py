@@ -1,11 +1,11 @@
 #!/usr/bin/env python3
-"""Draws docs/speed.svg, changes a second by board, from target/benches/results.txt."""
+"""Draws docs/speed.svg, changes a second by board, from out/benches/results.txt."""
 import math
 import pathlib
 
 root = pathlib.Path(__file__).resolve().parent.parent
 rows = []
-for line in (root / "target/benches/results.txt").read_text().splitlines():
+for line in (root / "out/benches/results.txt").read_text().splitlines():
     w = line.split()
     if len(w) > 17 and w[7] == "speed":
         rows.append((w[0], w[1], w[2], int(w[10]), int(w[15])))

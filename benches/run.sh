@@ -1,11 +1,12 @@
 #!/bin/sh
 # Builds the program `speed` and the same algorithm in plain Rust, runs both on the same boards, and
 # prints the best time of three of each and their ratio: 1.0 is plain Rust, more is slower. Name
-# boards to run only those: benches/run.sh card rings. The lines also go to target/benches/results.txt.
+# boards to run only those: benches/run.sh card rings. The lines also go to out/benches/results.txt.
 set -e
 cd "$(dirname "$0")/.."
-[ -x target/bin/speed ] || rt check speed
-out=target/benches
+speed=crates/speed/out/speed
+[ -x $speed ] || (cd crates/speed && rt run)
+out=out/benches
 times=${TIMES:-3}
 mkdir -p $out
 rustc --edition 2024 -C opt-level=3 -o $out/plain benches/plain.rs
@@ -18,10 +19,10 @@ best() {
 }
 
 for board in $boards; do
-    target/bin/speed board "$board" > "$out/$board.nlb"
+    $speed board "$board" > "$out/$board.nlb"
     for queue in heap wheel; do
         for values in nine pull; do
-            ours=$(best target/bin/speed "$board" $queue $values)
+            ours=$(best $speed "$board" $queue $values)
             set -- $ours
             plain=$(best $out/plain "$board" $queue $values "$out/$board.nlb" "$4")
             printf '%s\n%s\n' "$ours" "$plain" | awk '
