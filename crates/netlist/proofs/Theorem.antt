@@ -1,4 +1,4 @@
--- Looking over accepts exactly the files of well_formed netlists. Assumes nothing.
+-- Looking over accepts exactly the files of well-formed netlists. Assumes nothing.
 use Rattle.std.proofs.Common.{◌≡◌, ℕ, ◌<◌, List, get_or, take, None, Result, sym, ap, ◌∙◌, subst}
 use Rattle.std.proofs.lemmas.List.FromFn.{length-map-range_with_len}
 use Rattle.std.proofs.lemmas.List.{take_at}

@@ -66,7 +66,8 @@ fn obey<F: Named, C: Calendar>(
     out: &mut [u8],
     trace: &mut [u8],
 ) -> Result<usize, ScriptFault>
-    requires { (40000 ≤ length out.old) × (length trace.old ≡ 16384) }
+    requires room { 40000 ≤ length out.old }
+    requires long { length trace.old ≡ 16384 }
     ensures { Obeys F.Family F.Named.own C.Calendar line command run.old out.old trace.old run.new out.new trace.new result }
 {
     match command {
@@ -112,7 +113,8 @@ fn advance<F: Named, C: Calendar>(
     out: &mut [u8],
     trace: &mut [u8],
 ) -> Result<usize, ScriptFault>
-    requires { (40000 ≤ length out.old) × (length trace.old ≡ 16384) }
+    requires room { 40000 ≤ length out.old }
+    requires long { length trace.old ≡ 16384 }
     ensures { Obeys F.Family F.Named.own C.Calendar line (Advance ticks) run.old out.old trace.old run.new out.new trace.new result }
 {
     let (done, bytes) = at_line(run.advance(ticks, trace), line)?;

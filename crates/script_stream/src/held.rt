@@ -22,6 +22,7 @@ impl Held {
         }
     }
 
+    #[tactic(auto, using(crate::proofs::Keeping::kept_more, crate::proofs::Keeping::kept_full))]
     pub fn push(&mut self, b: u8)
         ensures { take self.new.len self.new.bytes ≡ take 33 (take self.old.len self.old.bytes ++ (b ∷ [])) }
     {

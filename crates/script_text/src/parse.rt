@@ -69,7 +69,8 @@ fn read_from(line: &[u8], at: usize) -> Option<u32>
 
 // The number that stands from a place on, before a space and a name of `width` bytes.
 fn read_before(line: &[u8], at: usize, width: usize) -> Option<u32>
-    requires { (at ≤ 8) × (width ≤ 4) }
+    requires near { at ≤ 8 }
+    requires short { width ≤ 4 }
     ensures { result ≡ number_before line.now at width }
 {
     let n = line.len();

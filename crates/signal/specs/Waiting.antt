@@ -18,7 +18,7 @@ module _ {V : Type 0} (L : Logic V) (C : Board) (s : State V) where
     pub differs : drives L C s x.gate x.tick ≡ drives L C s x.gate (x.tick - 1) → ⊥
     pub coded : x.code ≡ L.code (drives L C s x.gate x.tick)
 
--- The entries that wait are exactly those, on every well_formed board, in every state and after every tick.
+-- The entries that wait are exactly those, on every well-formed board, in every state and after every tick.
 abbrev pub WaitingExactly : {V : Type 0} → Logic V → Type 0
 WaitingExactly {V} L = (C : Board) → WellFormed C → (s : State V) (t : ℕ) (x : Entry) → Has (waiting_after L C s t) x ↔ Due L C s t x
 
