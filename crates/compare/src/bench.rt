@@ -8,6 +8,8 @@ use heap::heap::Heap;
 use logic::named::Named;
 use netlist::look_over::look_over;
 use netlist::place::Netlist;
+use nine_values::nine::NineValues;
+use pull_ranges::pulls::PullRanges;
 use run::state::Run;
 use script::line::answer_line;
 use std::alloc::{AllocError, Global};
@@ -77,9 +79,9 @@ fn on_wheel(
     let mut slots = vec![in heap; 0u16; 65 * 1024]?;
     let calendar = Wheel::new(slots.as_mut_slice());
     if pulls {
-        serve::<pull_ranges::pulls::PullRanges, Wheel<'_>>(heap, netlist, calendar, script)
+        serve::<PullRanges, Wheel>(heap, netlist, calendar, script)
     } else {
-        serve::<nine_values::nine::NineValues, Wheel<'_>>(heap, netlist, calendar, script)
+        serve::<NineValues, Wheel>(heap, netlist, calendar, script)
     }
 }
 
@@ -97,9 +99,9 @@ fn on_heap(
     let mut entries = vec![in heap; blank; 65_536]?;
     let calendar = Heap::new(entries.as_mut_slice());
     if pulls {
-        serve::<pull_ranges::pulls::PullRanges, Heap<'_>>(heap, netlist, calendar, script)
+        serve::<PullRanges, Heap>(heap, netlist, calendar, script)
     } else {
-        serve::<nine_values::nine::NineValues, Heap<'_>>(heap, netlist, calendar, script)
+        serve::<NineValues, Heap>(heap, netlist, calendar, script)
     }
 }
 

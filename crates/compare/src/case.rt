@@ -8,7 +8,9 @@ use cases::{board, spoiled};
 use heap::heap::Heap;
 use netlist::look_over::look_over;
 use netlist::place::Netlist;
+use nine_values::nine::NineValues;
 use oracle::family::Family;
+use pull_ranges::pulls::PullRanges;
 use std::alloc::{AllocError, Global};
 use wheel::wheel::Wheel;
 
@@ -60,13 +62,9 @@ fn with_heap(
     let mut entries = vec![in heap; blank; count as usize]?;
     let calendar = Heap::new(entries.as_mut_slice());
     if case.pulls {
-        play::play::<pull_ranges::pulls::PullRanges, Heap<'_>>(
-            heap, tally, random, &case, netlist, calendar,
-        )
+        play::play::<PullRanges, Heap>(heap, tally, random, &case, netlist, calendar)
     } else {
-        play::play::<nine_values::nine::NineValues, Heap<'_>>(
-            heap, tally, random, &case, netlist, calendar,
-        )
+        play::play::<NineValues, Heap>(heap, tally, random, &case, netlist, calendar)
     }
 }
 
@@ -93,13 +91,9 @@ fn with_wheel(
     let mut slots = vec![in heap; 0u16; count as usize]?;
     let calendar = Wheel::new(slots.as_mut_slice());
     if case.pulls {
-        play::play::<pull_ranges::pulls::PullRanges, Wheel<'_>>(
-            heap, tally, random, &case, netlist, calendar,
-        )
+        play::play::<PullRanges, Wheel>(heap, tally, random, &case, netlist, calendar)
     } else {
-        play::play::<nine_values::nine::NineValues, Wheel<'_>>(
-            heap, tally, random, &case, netlist, calendar,
-        )
+        play::play::<NineValues, Wheel>(heap, tally, random, &case, netlist, calendar)
     }
 }
 
