@@ -18,9 +18,13 @@ kind_number Tri = 9
 kind_number PullUp = 10
 kind_number PullDown = 11
 
+-- the kinds in the order of their numbers, which start at 1
+abbrev pub kinds : List GateKind
+kinds = Buffer ∷ Not ∷ And ∷ Or ∷ Xor ∷ Nand ∷ Nor ∷ Xnor ∷ Tri ∷ PullUp ∷ PullDown ∷ []
+
 -- the kind of a number 1 to 11, and Buffer for any other
 abbrev pub kind_of : ℕ → GateKind
-kind_of n = slice_index_or (Buffer ∷ Not ∷ And ∷ Or ∷ Xor ∷ Nand ∷ Nor ∷ Xnor ∷ Tri ∷ PullUp ∷ PullDown ∷ []) (n - 1) Buffer
+kind_of n = slice_index_or kinds (n - 1) Buffer
 
 -- the result is the kind that has the number, or an error where none has it
 abbrev pub Decodes : ℕ → Result GateKind NoSuchKind → Type 0
