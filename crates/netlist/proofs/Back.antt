@@ -5,21 +5,17 @@ use Rattle.std.proofs.lemmas.List.FromFn.{fill_by_all}
 use Rattle.std.proofs.lemmas.List.{drop-drop, drop_at, get_or-drop}
 use Rattle.std.proofs.lemmas.Bool.{cases_lt}
 use Rattle.std.proofs.lemmas.Bool.Decides.{nat_tests}
-use Rattle.netlist.specs.Answers.{first_fault}
 use Rattle.netlist.specs.Kinds.{kind_number, kind_of}
 use Rattle.netlist.specs.Parts.{blank}
 use Rattle.netlist.specs.File.{word, gate_at, gate_no, gate_offset, gates_of, watch_at, watch_offset, watches_of}
 use Rattle.netlist.specs.Checks.{head_fault, gate_fault, gate_no_fault, gates_fault, watch_fault, watches_fault, net_fault, nets_fault, verdict}
 use Rattle.netlist.specs.Board.{Board, Good, WellFormed, pair, gate_bytes, head_bytes, encoded, board_of}
 use Rattle.netlist.specs.declared.gate.Gate.{Gate}
+use Rattle.netlist.proofs.Firsts.{first_all}
 use Rattle.netlist.proofs.Numbers.{of_number, number_range}
 
 join : (w : ℕ) → w / 256 * 256 + w % 256 ≡ w
 join w = omega arith
-
-all_none : {F : Type 0} (check : ℕ → Option F) (n : ℕ) → ((k : ℕ) → k < n → check k ≡ None) → first_fault check n ≡ None
-all_none check zero each = refl
-all_none check (suc n) each = rw (all_none check n (λ k lt. each k (omega arith)), each n (omega arith))
 
 module _ {X : Type 0} (k : ℕ) (bytes : X → List ℕ) (long : (x : X) → length (bytes x) ≡ k) where
   length_joined : (xs : List X) → length (flat_map bytes xs) ≡ k * length xs
@@ -138,12 +134,12 @@ module _ (b : Board) where
         (rw w5 ok.some) (rw w5 ok.nets) (rw (w5, w7) ok.ports) (rw w9 ok.gates) (rw w11 ok.watched) (rw (w5, w11) ok.watches) (rw (w9, w11) long)
 
     no_gates : gates_fault (encoded b) ≡ None
-    no_gates = all_none (gate_no_fault (encoded b)) (word (encoded b) 9) (λ k lt.
+    no_gates = first_all (gate_no_fault (encoded b)) (word (encoded b) 9) (λ k lt.
         let in-range : k < length b.gates = omega (arith, w9) in
         (λ i. gate_fault (w5 i) (gate_offset k) (gate_starts k in-range i) (gate_is k in-range i)) ∙ no_gate_fault b.nets (gate_offset k) (get_or b.gates k blank) (ok.good k in-range))
 
     no_watches : watches_fault (encoded b) ≡ None
-    no_watches = all_none (watch_fault (encoded b)) (word (encoded b) 11) (λ k lt.
+    no_watches = first_all (watch_fault (encoded b)) (word (encoded b) 11) (λ k lt.
         let in-range : k < length b.watches = omega (arith, w11) in
         no_watch_fault (encoded b) k
         (subst (λ x. x < word (encoded b) 5) (sym (watch_is k in-range)) (subst (λ x. get_or b.watches k 0 < x) (sym w5) (ok.below k in-range)))
@@ -156,7 +152,7 @@ module _ (b : Board) where
         omega (arith, here, before, rw back at up)))
 
     no_nets : nets_fault (word (encoded b) 7) (gates_of (encoded b)) (word (encoded b) 5) ≡ None
-    no_nets = rw (w5, w7, gates_are) (all_none (net_fault b.ports b.gates) b.nets (λ k lt. ⊎_elim (λ h. grind (arith, nat_tests)) (λ h. grind (arith, nat_tests)) (ok.driven k lt)))
+    no_nets = rw (w5, w7, gates_are) (first_all (net_fault b.ports b.gates) b.nets (λ k lt. ⊎_elim (λ h. grind (arith, nat_tests)) (λ h. grind (arith, nat_tests)) (ok.driven k lt)))
 
     pub accepted : verdict (encoded b) ≡ None
     accepted = rw (no_head, no_gates, no_watches, no_nets)

@@ -23,33 +23,23 @@ pub record Gates (f : List ℕ) (g : ℕ) (gates : List Gate) : Type 0 where
   pub fine : first_fault (gate_no_fault f) g ≡ None
   pub held : gates ≡ table blank (map (gate_no f) (range_with_len 0 g))
 
-module _ (f : List ℕ) (h : Head) (is : h ≡ head_of f) (g : ℕ) (gates : List Gate) (sofar : Gates f g gates) (lt : g < h.gates) where
-  nets : h.nets ≡ word f 5
-  nets = ap (λ (h : Head). h.nets) is
-
-  count : h.gates ≡ word f 9
-  count = ap (λ (h : Head). h.gates) is
-
-  pub gates_refused : (e : NetlistFault) → Err e ≡ answer (gate_fault h.nets (gate_offset g) (get_or f (gate_offset g) 0) (gate_no f g)) (gate_no f g) → gates_fault f ≡ Some e
-  gates_refused e r =
-      first_found (gate_no_fault f) e g (word f 9) sofar.fine
-      (ap (λ n. gate_fault n (gate_offset g) (get_or f (gate_offset g) 0) (gate_no f g)) (sym nets) ∙ answer_err _ (gate_no f g) e r)
-      (omega (arith, count))
-
-  pub gates_more : g < 1024 → (v : Gate) → Ok v ≡ answer (gate_fault h.nets (gate_offset g) (get_or f (gate_offset g) 0) (gate_no f g)) (gate_no f g) → Gates f (g + 1) (set gates g v)
+module _ (f : List ℕ) (g : ℕ) (gates : List Gate) (sofar : Gates f g gates) where
+  pub gates_more : g < 1024 → (v : Gate) → Ok v ≡ answer (gate_no_fault f g) (gate_no f g) → Gates f (g + 1) (set gates g v)
   gates_more few v r =
-      let a = answer_ok (gate_fault h.nets (gate_offset g) (get_or f (gate_offset g) 0) (gate_no f g)) (gate_no f g) v r in
+      let a = answer_ok (gate_no_fault f g) (gate_no f g) v r in
       record {
-        fine = first_more (gate_no_fault f) g sofar.fine (ap (λ n. gate_fault n (gate_offset g) (get_or f (gate_offset g) 0) (gate_no f g)) (sym nets) ∙ a.0);
+        fine = first_more (gate_no_fault f) g sofar.fine a.0;
         held = rw (a.1, sofar.held) (table_more blank (gate_no f) g few);
       }
 
-pub gates_done : (f : List ℕ) (h : Head) → h ≡ head_of f → (g : ℕ) (gates : List Gate) → Gates f g gates → g ≡ h.gates → Ok gates ≡ answer (gates_fault f) (table blank (gates_of f))
-gates_done f h is g gates sofar end =
-    let n : g ≡ word f 9 = end ∙ ap (λ (h : Head). h.gates) is in
-    let fine : gates_fault f ≡ None = subst (λ n. first_fault (gate_no_fault f) n ≡ None) n sofar.fine in
-    let held : gates ≡ table blank (gates_of f) = subst (λ n. gates ≡ table blank (map (gate_no f) (range_with_len 0 n))) n sofar.held in
-    rw (fine, held)
+  pub gates_refused : (e : NetlistFault) → g < word f 9 → Err e ≡ answer (gate_no_fault f g) (gate_no f g) → gates_fault f ≡ Some e
+  gates_refused e lt r = first_found (gate_no_fault f) e g (word f 9) sofar.fine (answer_err _ (gate_no f g) e r) lt
+
+  pub gates_done : g ≡ word f 9 → Ok gates ≡ answer (gates_fault f) (table blank (gates_of f))
+  gates_done n =
+      let fine : gates_fault f ≡ None = subst (λ n. first_fault (gate_no_fault f) n ≡ None) n sofar.fine in
+      let held : gates ≡ table blank (gates_of f) = subst (λ n. gates ≡ table blank (map (gate_no f) (range_with_len 0 n))) n sofar.held in
+      rw (fine, held)
 
 -- the watches before i have no fault, and stand in the table
 pub record Watches (f : List ℕ) (i : ℕ) (watches : List ℕ) : Type 0 where

@@ -47,16 +47,16 @@ impl NetlistFault {
         ensures { result ≡ fault_place self }
     {
         match self {
-            NetlistFault::Short(length) => length,
-            NetlistFault::Mark(offset) => offset,
-            NetlistFault::Version(offset) => offset,
-            NetlistFault::Count(offset) => offset,
-            NetlistFault::Length(length) => length,
-            NetlistFault::Kind(offset) => offset,
-            NetlistFault::Net(offset) => offset,
-            NetlistFault::Delay(offset) => offset,
-            NetlistFault::Watch(offset) => offset,
-            NetlistFault::Undriven(net) => net,
+            NetlistFault::Short(place)
+            | NetlistFault::Mark(place)
+            | NetlistFault::Version(place)
+            | NetlistFault::Count(place)
+            | NetlistFault::Length(place)
+            | NetlistFault::Kind(place)
+            | NetlistFault::Net(place)
+            | NetlistFault::Delay(place)
+            | NetlistFault::Watch(place)
+            | NetlistFault::Undriven(place) => place,
         }
     }
 }

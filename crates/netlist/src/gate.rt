@@ -90,6 +90,17 @@ pub struct Gate {
     pub delay: u16,
 }
 
+impl Gate {
+    // What fills the rest of a table.
+    pub const BLANK: Gate = Gate {
+        kind: GateKind::Buffer,
+        a: 0,
+        b: 0,
+        out: 0,
+        delay: 0,
+    };
+}
+
 // The four counts of a file's head.
 #[derive(Clone, Copy)]
 pub struct Head {

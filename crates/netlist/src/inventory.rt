@@ -20,11 +20,10 @@ impl Netlist {
     pub fn total_delay(&self) -> u32
         ensures { result ≡ total_delay (contents self.now) }
     {
-        let mut sum = 0;
-        for g in 0..self.head.gates as usize {
-            sum += self.gates[g].delay as u32;
-        }
-        sum
+        self.gates[..self.head.gates as usize]
+            .iter()
+            .map(|g| u32::from(g.delay))
+            .sum()
     }
 
     // Counts what the board holds.
