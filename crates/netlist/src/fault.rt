@@ -1,8 +1,10 @@
-ghost use Rattle.std.specs.Prelude.{◌≡◌};
-ghost use Rattle.netlist.specs.Faults.{fault_number, fault_layer, fault_place};
+ghost use Rattle.std.specs.Prelude.{◌≡◌, Some};
+ghost use Rattle.netlist.specs.Faults.{fault_number, fault_layer, fault_place, fault_text};
+
+use std::fmt;
 
 // Why a file is refused, with the place that the refusal names.
-#[derive(Clone, Copy)]
+#[derive(Clone, Copy, Debug, PartialEq, Eq)]
 pub enum NetlistFault {
     Short(usize),
     Mark(usize),
@@ -58,5 +60,13 @@ impl NetlistFault {
             | NetlistFault::Watch(place)
             | NetlistFault::Undriven(place) => place,
         }
+    }
+}
+
+impl fmt::Display for NetlistFault {
+    ghost output = { λ fault. Some (fault_text fault) };
+
+    fn fmt<W: fmt::Write>(&self, f: &mut fmt::Formatter<W>) -> fmt::Result {
+        write!(f, "{} {} {}", self.number(), self.layer(), self.place())
     }
 }

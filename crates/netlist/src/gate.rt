@@ -81,7 +81,7 @@ impl GateKind {
 }
 
 // One gate of a netlist, as its record has it.
-#[derive(Clone, Copy)]
+#[derive(Clone, Copy, Debug, PartialEq, Eq)]
 pub struct Gate {
     pub kind: GateKind,
     pub a: u16,
@@ -102,7 +102,7 @@ impl Gate {
 }
 
 // The four counts of a file's head.
-#[derive(Clone, Copy)]
+#[derive(Clone, Copy, Debug, PartialEq, Eq)]
 pub struct Head {
     pub nets: u16,
     pub ports: u16,

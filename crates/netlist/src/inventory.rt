@@ -6,7 +6,7 @@ ghost use Rattle.netlist.specs.Stock.{stock};
 use crate::place::Netlist;
 
 // What a board holds, in numbers.
-#[derive(Clone, Copy)]
+#[derive(Clone, Copy, Debug, PartialEq, Eq)]
 pub struct Inventory {
     pub nets: u16,
     pub ports: u16,
