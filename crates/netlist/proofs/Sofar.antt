@@ -1,12 +1,11 @@
 -- How far the reader's loops have come. Assumes nothing.
-use Rattle.std.proofs.Common.{◌≡◌, ℕ, ◌+◌, ◌<◌, List, map, get_or, set, Some, None, Ok, Err, Option, sym, refl, ap, ◌∙◌, subst, arith}
+use Rattle.std.proofs.Common.{◌≡◌, ℕ, ◌+◌, ◌<◌, List, map, set, Some, None, Ok, Err, Option, refl, subst}
 use Rattle.std.specs.List.{range_with_len}
 use Rattle.netlist.specs.Answers.{answer, first_fault}
 use Rattle.netlist.specs.Parts.{table, blank}
-use Rattle.netlist.specs.File.{word, gate_no, gate_offset, gates_of, watch_at, watches_of}
-use Rattle.netlist.specs.Checks.{head_of, gate_fault, gate_no_fault, gates_fault, watch_fault, watches_fault}
+use Rattle.netlist.specs.File.{word, gate_no, gates_of, watch_at, watches_of}
+use Rattle.netlist.specs.Checks.{gate_no_fault, gates_fault, watch_fault, watches_fault}
 use Rattle.netlist.specs.declared.gate.Gate.{Gate}
-use Rattle.netlist.specs.declared.gate.Head.{Head}
 use Rattle.netlist.specs.declared.fault.NetlistFault.{NetlistFault}
 use Rattle.netlist.proofs.Firsts.{first_more, first_found}
 use Rattle.netlist.proofs.Tables.{table_more}
