@@ -1,8 +1,9 @@
-ghost use Rattle.std.specs.Prelude.{◌≡◌, ◌+◌, ◌*◌, ◌<◌, ◌≤◌, length, Some, None, MatchResult};
+ghost use Rattle.std.specs.Prelude.{◌≡◌, ◌+◌, ◌*◌, ◌<◌, ◌≤◌, length, Some, None, MatchResult, ℕ};
 ghost use Rattle.netlist.specs.Parts.{blank, table, is_output};
 ghost use Rattle.netlist.specs.File.{word, gate_no, gates_of, watch_at, watches_of};
 ghost use Rattle.netlist.specs.Checks.{head_of, head_fault, gate_no_fault, gates_fault, watch_fault, watches_fault, nets_fault};
 ghost use Rattle.netlist.specs.Answers.{answer};
+ghost use Rattle.netlist.specs.Tables.{FilledTo, StoppedBy};
 
 use crate::fault::NetlistFault;
 use crate::gate::{Gate, GateKind, Head};
@@ -109,9 +110,7 @@ impl<'a> File<'a> {
         ensures { result ≡ answer (gates_fault self.now.bytes.now) (table blank (gates_of self.now.bytes.now)) }
     {
         let mut gates = [Gate::BLANK; 1024];
-        for g in 0..self.head.gates as usize {
-            gates[g] = self.gate(g)?;
-        }
+        fill_table(&mut gates[..self.head.gates as usize], |g| self.gate(g))?;
         Ok(gates)
     }
 
@@ -135,11 +134,27 @@ impl<'a> File<'a> {
         ensures { result ≡ answer (watches_fault self.now.bytes.now) (table 0 (watches_of self.now.bytes.now)) }
     {
         let mut watches = [0; 1024];
-        for i in 0..self.head.watches as usize {
-            watches[i] = self.watch(i)?;
-        }
+        fill_table(
+            &mut watches[..self.head.watches as usize],
+            |i| self.watch(i),
+        )?;
         Ok(watches)
     }
+}
+
+// Fills a table in order, or stops at the first entry that is refused.
+fn fill_table<T: Copy, F: Fn(usize) -> Result<T, NetlistFault>>(
+    table: &mut [T],
+    entry: F,
+) -> Result<(), NetlistFault>
+    requires { (i : ℕ) → i < length table.old → F.pre entry i }
+    ensures long { length table.new ≡ length table.old }
+    ensures fills { MatchResult result (λ _. FilledTo (F.post entry) table.new (length table.new)) (StoppedBy (F.post entry) table.new) }
+{
+    for (i, place) in table.iter_mut().enumerate() {
+        *place = entry(i)?;
+    }
+    Ok(())
 }
 
 fn is_output(gates: &[Gate], net: u16) -> bool

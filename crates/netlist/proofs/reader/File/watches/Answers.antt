@@ -1,25 +1,25 @@
-use Rattle.std.proofs.Common.{◌≡◌, ◌<◌, refl, ap, arith}
+use Rattle.std.proofs.Common.{◌≡◌, length, sym, ap, ◌∙◌, rules}
 use Rattle.std.proofs.lemmas.Result.{err_from_is_err_and}
-use Rattle.netlist.specs.File.{word}
+use Rattle.netlist.specs.File.{word, watch_at, watches_of}
+use Rattle.netlist.specs.Checks.{watch_fault, watches_fault}
 use Rattle.netlist.specs.declared.gate.Head.{Head}
-use Rattle.netlist.proofs.Sofar.{watches_refused, watches_more, watches_done}
+use Rattle.netlist.proofs.Tables.{table_filled}
+use Rattle.netlist.proofs.Sofar.{stopped, filled}
 use Rattle.netlist.proofs.reader.File.watches.Goals as goal
 
-pub loop-i-init : goal.loop-i-init
-loop-i-init c = record { fine = refl; held = refl }
-
-pub returns-in_err-watches : goal.returns-in_err-watches
-returns-in_err-watches c =
+pub returns-in_err-fill_table : goal.returns-in_err-fill_table
+returns-in_err-fill_table c =
     let p = err_from_is_err_and c.from_residual.result c.from_residual.ensures.1 in
-    let n = ap (λ (h : Head). h.watches) c.args.self.now.read in
-    let lt : c.loop-i.i < word c.args.self.now.bytes.now 11 = omega (arith, n) in
-    rw (p.1, p.2, watches_refused _ _ _ c.loop-i.invariant _ lt c.in_err-watches.ensures)
-
-pub loop-i-preserved : goal.loop-i-preserved
-loop-i-preserved c = watches_more _ _ _ c.loop-i.invariant (omega (arith, c.args.self.now.watches)) _ c.in_ok-watches.ensures
+    let f = c.args.self.now.bytes.now in
+    let count = ap (λ (h : Head). h.watches) c.args.self.now.read in
+    let n : length c.fill_table.new.table ≡ word f 11 = search (rules, count) in
+    let s = stopped (watch_fault f) (watch_at f) (word f 11) n c.in_err-fill_table.ensures.fills (λ k r lt m. search rules) in
+    rw (p.1, p.2, s)
 
 pub returns : goal.returns
 returns c =
-    let n = ap (λ (h : Head). h.watches) c.args.self.now.read in
-    let end : c.loop-i.i ≡ word c.args.self.now.bytes.now 11 = omega (arith, n) in
-    watches_done _ _ _ c.loop-i.invariant end
+    let f = c.args.self.now.bytes.now in
+    let count = ap (λ (h : Head). h.watches) c.args.self.now.read in
+    let n : length c.fill_table.new.table ≡ word f 11 = search (rules, count) in
+    let all = filled (watch_fault f) (watch_at f) (word f 11) n (rw n at c.in_ok-fill_table.ensures.fills) (λ k r lt m. search rules) in
+    table_filled 0 c.fill_table.new.table (watches_of f) c.args.self.now.head.watches (watches_fault f) all.0 all.1 (n ∙ sym count)
