@@ -22,7 +22,7 @@ fn read_head(bytes: &[u8]) -> Result<Head, NetlistFault>
     if n < 13 {
         return Err(NetlistFault::Short(n));
     }
-    if bytes[0] != 0x4e || bytes[1] != 0x4c || bytes[2] != 0x42 {
+    if !bytes.starts_with(b"NLB") {
         return Err(NetlistFault::Mark(0));
     }
     if be16(bytes, 3) != 1 {
