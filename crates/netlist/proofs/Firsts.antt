@@ -9,9 +9,6 @@ use Rattle.netlist.specs.declared.gate.Gate.{Gate}
 use Rattle.netlist.specs.declared.fault.NetlistFault.TheVariants.{Undriven}
 
 module _ {F : Type 0} (check : ℕ → Option F) where
-  pub first_more : (i : ℕ) → first_fault check i ≡ None → check i ≡ None → first_fault check (i + 1) ≡ None
-  first_more i h k = rw (add-one, h, k)
-
   pub first_stays : (e : F) (m n : ℕ) → first_fault check m ≡ Some e → m ≤ n → first_fault check n ≡ Some e
   first_stays e m zero h le = let z : m ≡ 0 = omega arith in subst (λ k. first_fault check k ≡ Some e) z h
   first_stays e m (suc n) h le =
