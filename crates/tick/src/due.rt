@@ -13,7 +13,7 @@ pub fn take_due<F: Family, C: Calendar>(calendar: &mut C, tick: u32, drives: &mu
     while is_due(calendar, tick) {
         if let Some(e) = calendar.take() {
             if let Some(v) = F::of_code(e.code) {
-                drives[e.gate as usize] = v;
+                put_level::<F>(drives, e.gate, v);
             }
         }
     }
@@ -23,4 +23,11 @@ pub fn is_due<C: Calendar>(calendar: &C, tick: u32) -> bool
     ensures { result ≡ is_first tick (C.Calendar.meaning calendar.now).waiting }
 {
     calendar.next() == Some(tick)
+}
+
+fn put_level<F: Family>(drives: &mut [F::Value; 1024], g: u16, v: F::Value)
+    requires { g < 1024 }
+    ensures { drives.new ≡ slice_set drives.old g v }
+{
+    drives[g as usize] = v;
 }

@@ -1,11 +1,13 @@
 ghost use Rattle.std.specs.Prelude.{◌≡◌, ℕ, ◌<◌, ◌≤◌, length, slice_index_or, slice_set};
 ghost use Rattle.signal.specs.Circuit.{gate, operate};
+ghost use Rattle.netlist.specs.Kinds.{kind_number};
 ghost use Rattle.netlist.specs.Looked.{contents};
 ghost use Rattle.tick.specs.Plans.{result_at, plans, put_changed};
 
 use crate::moment::Moment;
 use calendar::calendar::Calendar;
 use logic::family::Family;
+use netlist::gate::GateKind;
 use netlist::place::Netlist;
 
 // Each gate plans what it will drive a delay on, where that differs from what it planned last.
@@ -45,7 +47,7 @@ pub fn plan_gate<F: Family, C: Calendar>(
         return;
     }
     let gate = net.gates[g as usize];
-    let v = operate::<F>(gate.kind, levels[gate.a as usize], levels[gate.b as usize]);
+    let v = gate_result::<F>(gate.kind, levels[gate.a as usize], levels[gate.b as usize]);
     put_changed::<F, C>(calendar, gate.delay, g, moment, v, planned[g as usize]);
     planned[g as usize] = v;
 }
@@ -70,30 +72,31 @@ fn put_changed<F: Family, C: Calendar>(
 }
 
 // What a gate of the kind gives on its inputs.
-pub fn operate<F: Family>(kind: u8, a: F::Value, b: F::Value) -> F::Value
-    ensures { result ≡ operate F.Family.logic kind a b }
+pub fn gate_result<F: Family>(kind: GateKind, a: F::Value, b: F::Value) -> F::Value
+    ensures { result ≡ operate F.Family.logic (kind_number kind) a b }
 {
     match kind {
-        1 => F::and(a, a),
-        2 => F::not(a),
-        k if k >= 3 && k <= 5 => two_input::<F>(k, a, b),
-        k if k >= 6 && k <= 8 => F::not(two_input::<F>(k - 3, a, b)),
-        9 => F::tri(a, b),
-        10 => F::pull_up(),
-        11 => F::pull_down(),
-        _ => F::unset(),
+        GateKind::Buffer => F::and(a, a),
+        GateKind::Not => F::not(a),
+        GateKind::And => F::and(a, b),
+        GateKind::Or => F::or(a, b),
+        GateKind::Xor => F::xor(a, b),
+        GateKind::Nand => F::not(F::and(a, b)),
+        GateKind::Nor => F::not(F::or(a, b)),
+        GateKind::Xnor => F::not(F::xor(a, b)),
+        GateKind::Tri => F::tri(a, b),
+        GateKind::PullUp => F::pull_up(),
+        GateKind::PullDown => F::pull_down(),
     }
 }
 
-// AND, OR and XOR, the kinds 3 to 5.
-fn two_input<F: Family>(kind: u8, a: F::Value, b: F::Value) -> F::Value
-    requires low { 3 ≤ kind }
-    requires high { kind ≤ 5 }
+// The same by a kind's number; one that no kind has gives unset.
+#[tactic(auto, using(crate::proofs::Numbers::no_kind))]
+pub fn operate<F: Family>(kind: u8, a: F::Value, b: F::Value) -> F::Value
     ensures { result ≡ operate F.Family.logic kind a b }
 {
-    match kind {
-        3 => F::and(a, b),
-        4 => F::or(a, b),
-        _ => F::xor(a, b),
+    match GateKind::try_from(kind) {
+        Ok(kind) => gate_result::<F>(kind, a, b),
+        Err(_) => F::unset(),
     }
 }

@@ -34,6 +34,7 @@ pub fn report<F: Family>(
 }
 
 // Writes the record of a net whose level differs.
+#[tactic(auto, using(crate::proofs::Over::wrote_none))]
 fn report_net<F: Family>(
     old: F::Value,
     new: F::Value,
@@ -49,7 +50,14 @@ fn report_net<F: Family>(
     if code == F::code(old) {
         return at;
     }
-    out[at..at + 8].copy_from_slice(&record(tick, n, code));
+    put_record(out, at, tick, n, code)
+}
+
+fn put_record(out: &mut [u8], at: usize, tick: u32, net: u16, code: u16) -> usize
+    requires { at + 8 ≤ length out.old }
+    ensures { Wrote out.old at (change_bytes (made tick net code)) result out.new }
+{
+    out[at..at + 8].copy_from_slice(&record(tick, net, code));
     at + 8
 }
 

@@ -5,7 +5,6 @@ ghost use Rattle.tick.specs.Settled.{drivers_of, joined};
 
 use logic::family::Family;
 use netlist::place::Netlist;
-use std::array;
 
 // Resolves every net: its port, if it is one, then the gates with that output, in file order.
 pub fn settle<F: Family>(
@@ -16,13 +15,18 @@ pub fn settle<F: Family>(
     ensures long { length result ≡ 1024 }
     ensures resolves { (n : ℕ) → n < 1024 → slice_index_or result n F.Family.logic.unset ≡ resolved F.Family.logic (drivers_of F.Family.logic (contents net.now) ports.now drives.now n) }
 {
-    let mut levels: [Option<F::Value>; 1024] =
-        array::from_fn(|n| (n < net.head.ports as usize).then_some(ports[n]));
+    // Kept as it is: a mark beside each level, and no table of options: nothing shows that 1,024 options of a value fit in memory.
+    let mut levels = [F::unset(); 1024];
+    let mut marks = [false; 1024];
+    let count = net.head.ports as usize;
+    levels[..count].copy_from_slice(&ports[..count]);
+    marks[..count].fill(true);
     for (g, gate) in net.gates[..net.head.gates as usize].iter().enumerate() {
         let n = gate.out as usize;
-        levels[n] = Some(joined::<F>(levels[n], drives[g]));
+        levels[n] = joined::<F>(marks[n].then_some(levels[n]), drives[g]);
+        marks[n] = true;
     }
-    array::from_fn(|n| levels[n].unwrap_or(F::unset()))
+    levels
 }
 
 // One driver more of a net: it drives alone, or with those so far.
