@@ -9,15 +9,6 @@ pub struct Range {
     ghost small: { high ≤ 7 },
 }
 
-impl Range {
-    // The ranges that constants and gates give.
-    pub const NONE: Range = Range { low: 0, high: 0 };
-    pub const PERHAPS: Range = Range { low: 0, high: 6 };
-    pub const ANY: Range = Range { low: 0, high: 7 };
-    pub const WEAK: Range = Range { low: 3, high: 3 };
-    pub const STRONG: Range = Range { low: 6, high: 6 };
-}
-
 // A value of the family: the pull towards 1 and the pull towards 0.
 #[derive(Clone, Copy)]
 pub struct Pull {
