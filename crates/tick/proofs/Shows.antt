@@ -8,7 +8,8 @@ use Rattle.logic.specs.Logic.{Logic}
 use Rattle.netlist.specs.Board.{Board}
 use Rattle.signal.specs.Circuit.{gate, gate_count}
 use Rattle.signal.specs.Signal.{resolved, resolved_onto}
-use Rattle.signal.proofs.Rows.{joined_append, counting_append}
+use Rattle.std.proofs.lemmas.Grind.{flat_map-append}
+use Rattle.signal.proofs.Rows.{counting_append}
 use Rattle.tick.specs.Settled.{by_port, by_gate, drivers_below, drivers_of, joined, come_to}
 
 -- the first p elements of ys, and behind them those of xs
@@ -103,7 +104,7 @@ module _ {V : Type 0} (L : Logic V) where
     more n i =
         let f = by_gate L C ports drives n in
         let b = by_port L C ports drives n C.ports in
-        ap (λ l. b ++ l) (ap (flat_map f) (counting_append 0 i 1) ∙ joined_append f (range_with_len 0 i) (range_with_len (0 + i) 1) ∙ ap (λ l. flat_map f (range_with_len 0 i) ++ l) (append-nil (f (0 + i)) ∙ ap f (plus i)))
+        ap (λ l. b ++ l) (ap (flat_map f) (counting_append 0 i 1) ∙ flat_map-append f (range_with_len 0 i) (range_with_len (0 + i) 1) ∙ ap (λ l. flat_map f (range_with_len 0 i) ++ l) (append-nil (f (0 + i)) ∙ ap f (plus i)))
         ∙ sym (append_assoc b (flat_map f (range_with_len 0 i)) (f i))
       where
         plus : (k : ℕ) → 0 + k ≡ k
