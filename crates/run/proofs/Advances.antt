@@ -6,7 +6,7 @@ use Rattle.netlist.specs.Board.{Board}
 use Rattle.signal.specs.Calls.{State, Change, advanced, advance, changes_at, change_bytes, completes, tick_room, leaves, answers, level_before}
 use Rattle.logic.specs.declared.family.Family.{Ghosts as Family}
 use Rattle.calendar.specs.declared.calendar.Calendar.{Ghosts as Calendar}
-use Rattle.signal.proofs.Rows.{joined_append}
+use Rattle.std.proofs.lemmas.Grind.{flat_map-append}
 use Rattle.signal.proofs.Advancing.{length_bytes, completes_go, written_more}
 use Rattle.netlist.specs.Looked.{contents}
 use Rattle.tick.specs.Laid.{Wrote}
@@ -54,7 +54,7 @@ module _ {F D V : Type 0} (f : Family F V) (c : Calendar D) (C : Board) (s : Sta
       let T = s.ticks in
       let new = changes_at L C s (T + done) in
       let more : first (done + 1) ≡ first done ++ new = written_more L C s T done in
-      let bytes : flat_map change_bytes (first (done + 1)) ≡ flat_map change_bytes (first done) ++ flat_map change_bytes new = ap (flat_map change_bytes) more ∙ joined_append change_bytes (first done) new in
+      let bytes : flat_map change_bytes (first (done + 1)) ≡ flat_map change_bytes (first done) ++ flat_map change_bytes new = ap (flat_map change_bytes) more ∙ flat_map-append change_bytes (first done) new in
       let count : length s.changes + length (first done) + length new ≡ length s.changes + length (first (done + 1)) = add_assoc (length s.changes) (length (first done)) (length new) ∙ ap (λ m. length s.changes + m) (sym (ap length more ∙ length-append (first done) new)) in
       let fewer : k - done ≡ suc (k - (done + 1)) = omega arith in
       let rest : length old - end - 8 * length new ≡ length old - end' = omega (arith, w.count, length_bytes new) in

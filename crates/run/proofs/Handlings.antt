@@ -10,7 +10,7 @@ use Rattle.signal.specs.Calls.{Call, Answer, wake, drive, advance, read, shows, 
 use Rattle.signal.specs.Handled.{Handled as AnyHandled, opens as any_opens, calls as any_calls}
 use Rattle.signal.proofs.Theorems.{three_laws}
 use Rattle.signal.proofs.Handling.{any_two_runs}
-use Rattle.signal.proofs.Rows.{joined_append}
+use Rattle.std.proofs.lemmas.Grind.{flat_map-append}
 use Rattle.run.specs.declared.state.Run.{Run}
 use Rattle.run.specs.declared.state.RunFault.{RunFault}
 use Rattle.run.specs.declared.state.RunFault.TheVariants.{UnfitCalendar, NoSuchInput, NoSuchCode, ZeroTicks, TooManyTicks, ShortBuffer, NoSuchNet, WrongTime}
@@ -75,7 +75,7 @@ bytes_added (Ok r) out = refl
 bytes_added (Err e) out = refl
 
 more : (us : List Answer) (a : Answer) (u w : List ℕ) → flat_map wrote us ≡ u → wrote a ≡ w → flat_map wrote (us ++ (a ∷ [])) ≡ u ++ w
-more us a u w e is = joined_append wrote us (a ∷ []) ∙ (λ i. e i ++ (append-nil (wrote a) ∙ is) i)
+more us a u w e is = flat_map-append wrote us (a ∷ []) ∙ (λ i. e i ++ (append-nil (wrote a) ∙ is) i)
 
 quiet : (us : List Answer) (a : Answer) (u : List ℕ) → flat_map wrote us ≡ u → wrote a ≡ [] → flat_map wrote (us ++ (a ∷ [])) ≡ u
 quiet us a u e is = more us a u [] e is ∙ append-nil u

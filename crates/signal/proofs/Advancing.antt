@@ -6,7 +6,8 @@ use Rattle.std.proofs.lemmas.Bool.{lt-ltb, le-ltb}
 use Rattle.logic.specs.Logic.{Logic}
 use Rattle.netlist.specs.Board.{Board}
 use Rattle.signal.specs.Calls.{State, Change, change_bytes, change, changes_at, completes, tick_room, level, level_before}
-use Rattle.signal.proofs.Rows.{joined_append, counting_append}
+use Rattle.std.proofs.lemmas.Grind.{flat_map-append}
+use Rattle.signal.proofs.Rows.{counting_append}
 
 -- a record has 8 bytes
 pub length_bytes : (cs : List Change) → length (flat_map change_bytes cs) ≡ 8 * length cs
@@ -38,4 +39,4 @@ module _ {V : Type 0} (L : Logic V) (C : Board) (s : State V) where
   pub written_more : (t m : ℕ) → flat_map (changes_at L C s) (range_with_len t (m + 1)) ≡ flat_map (changes_at L C s) (range_with_len t m) ++ changes_at L C s (t + m)
   written_more t m =
       let f = changes_at L C s in
-      ap (flat_map f) (counting_append t m 1) ∙ joined_append f (range_with_len t m) (range_with_len (t + m) 1) ∙ ap (λ l. flat_map f (range_with_len t m) ++ l) (append-nil (f (t + m)))
+      ap (flat_map f) (counting_append t m 1) ∙ flat_map-append f (range_with_len t m) (range_with_len (t + m) 1) ∙ ap (λ l. flat_map f (range_with_len t m) ++ l) (append-nil (f (t + m)))

@@ -10,7 +10,8 @@ use Rattle.netlist.specs.Board.{Board}
 use Rattle.signal.specs.Signal.{started, N}
 use Rattle.signal.specs.Calls.{State, Call, wake, drive, advance, read, opened, first_of, most_ticks, level, level_before, changes_at, completes, written, tick_room, checks, refusal, leaves, after, lived, change_bytes, answers, answer, replies, wrote, refused}
 use Rattle.signal.proofs.Orders.{n_same}
-use Rattle.signal.proofs.Rows.{joined_append, joined_each, counting_append, counting_all}
+use Rattle.std.proofs.lemmas.Grind.{flat_map-append}
+use Rattle.signal.proofs.Rows.{joined_each, counting_append, counting_all}
 
 -- ---- checks
 no_fault : (b : Bool) (n : ℕ) (o : Option ℕ) → ◌≡◌ {A = Option ℕ} (elim b [ true ↦ Some n | false ↦ o ]) None → (b ≡ false) × (o ≡ None)
@@ -84,7 +85,7 @@ module _ {V : Type 0} {L : Logic V} (laws : Laws L) (C : Board) where
         told =
             ap (λ l. l ++ flat_map f (range_with_len s.ticks m)) w.told
             ∙ ap (λ a. flat_map f (range_with_len 0 s.ticks) ++ flat_map f (range_with_len a m)) (sym start)
-            ∙ sym (joined_append f (range_with_len 0 s.ticks) (range_with_len (0 + s.ticks) m))
+            ∙ sym (flat_map-append f (range_with_len 0 s.ticks) (range_with_len (0 + s.ticks) m))
             ∙ ap (flat_map f) (sym (counting_append 0 s.ticks m));
       }
   whole_leaves s (read n) ok w = w
@@ -111,7 +112,7 @@ module _ {V : Type 0} (L : Logic V) (C : Board) where
   wrote_leaves : (s : State V) (c : Call) → recorded (leaves L C s c) ≡ recorded s ++ wrote (answers L C s c)
   wrote_leaves s (wake g c) = sym (append-nil (recorded s))
   wrote_leaves s (drive p c) = sym (append-nil (recorded s))
-  wrote_leaves s (advance k room) = joined_append change_bytes s.changes (written L C s k room)
+  wrote_leaves s (advance k room) = flat_map-append change_bytes s.changes (written L C s k room)
   wrote_leaves s (read n) = sym (append-nil (recorded s))
 
   wrote_after : (s : State V) (c : Call) → recorded (after L C s c) ≡ recorded s ++ wrote (answer L C s c)
@@ -126,7 +127,7 @@ module _ {V : Type 0} (L : Logic V) (C : Board) where
   wrote_life fit (c ∷ cs) =
       let s = opened L fit in
       let a = answer L C (lived L C s cs) c in
-      joined_append wrote (replies L C s cs) (a ∷ [])
+      flat_map-append wrote (replies L C s cs) (a ∷ [])
       ∙ ap (λ l. flat_map wrote (replies L C s cs) ++ l) (append-nil (wrote a))
       ∙ ap (λ l. l ++ wrote a) (wrote_life fit cs)
       ∙ sym (wrote_after (lived L C s cs) c)

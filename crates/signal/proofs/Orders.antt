@@ -8,9 +8,10 @@ use Rattle.std.proofs.lemmas.Bool.{ltb-true}
 use Rattle.logic.specs.Logic.{Logic, Laws}
 use Rattle.netlist.specs.declared.gate.Gate.{Gate}
 use Rattle.netlist.specs.Board.{Board}
+use Rattle.netlist.specs.Kinds.{kind_number}
 use Rattle.signal.specs.Circuit.{gate, gate_count, operate}
 use Rattle.signal.specs.Signal.{Levels, resolved, resolved_onto, started, from_port, from_gate, carried, before, N}
-use Rattle.signal.proofs.Rows.{joined_map}
+use Rattle.std.proofs.lemmas.List.Folds.{flat_map-map}
 
 -- ---- a sum in a commutative monoid is the same over shuffled lists
 module _ {X M : Type 0} (e : M) (op : M → M → M) (comm : (a b : M) → op a b ≡ op b a) (assoc : (a b c : M) → op (op a b) c ≡ op a (op b c)) (f : X → M) where
@@ -92,7 +93,7 @@ module _ {V : Type 0} {L : Logic V} (laws : Laws L) where
 -- what a gate with its start level drives onto net n at tick t
 abbrev of_started : {V : Type 0} → Logic V → Levels V → ℕ → ℕ → Gate × V → List V
 of_started L M n t x =
-    cond (eqb x.0.out n) (elim (ltb t x.0.delay) [ true ↦ x.1 | false ↦ operate L x.0.kind (M x.0.a (t - x.0.delay)) (M x.0.b (t - x.0.delay)) ] ∷ []) []
+    cond (eqb x.0.out n) (elim (ltb t x.0.delay) [ true ↦ x.1 | false ↦ operate L (kind_number x.0.kind) (M x.0.a (t - x.0.delay)) (M x.0.b (t - x.0.delay)) ] ∷ []) []
 
 module _ {V : Type 0} {L : Logic V} (laws : Laws L) (C C' : Board) (S S' : ℕ → V) (P P' : ℕ → ℕ → V)
     (same-ports : C'.ports ≡ C.ports) (pairs : IsPermutation (started C S) (started C' S')) where
@@ -105,8 +106,8 @@ module _ {V : Type 0} {L : Logic V} (laws : Laws L) (C C' : Board) (S S' : ℕ �
       let f = of_started L M n t in
       let ports : from_port L C' S' P' n t ≡ from_port L C S P n t =
       ap (λ k. cond (ltb n k) (P' n t ∷ []) []) same-ports ∙ port_same n t (ltb n C.ports) (λ e. h n (ltb-true n C.ports e)) in
-      let g : flat_map (from_gate L C S P M n t) (range_with_len 0 (gate_count C)) ≡ flat_map f (started C S) = sym (joined_map f (λ k. (gate C k, S k)) (range_with_len 0 (gate_count C))) in
-      let g' : flat_map (from_gate L C' S' P' M n t) (range_with_len 0 (gate_count C')) ≡ flat_map f (started C' S') = sym (joined_map f (λ k. (gate C' k, S' k)) (range_with_len 0 (gate_count C'))) in
+      let g : flat_map (from_gate L C S P M n t) (range_with_len 0 (gate_count C)) ≡ flat_map f (started C S) = sym (flat_map-map f (λ k. (gate C k, S k)) (range_with_len 0 (gate_count C))) in
+      let g' : flat_map (from_gate L C' S' P' M n t) (range_with_len 0 (gate_count C')) ≡ flat_map f (started C' S') = sym (flat_map-map f (λ k. (gate C' k, S' k)) (range_with_len 0 (gate_count C'))) in
       ap (λ vs. resolved L (vs ++ flat_map (from_gate L C' S' P' M n t) (range_with_len 0 (gate_count C')))) ports
       ∙ ap (λ vs. resolved L (from_port L C S P n t ++ vs)) g'
       ∙ resolved_shuffled laws (from_port L C S P n t) f (started C S) (started C' S') pairs

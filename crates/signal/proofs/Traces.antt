@@ -6,7 +6,8 @@ use Rattle.std.proofs.lemmas.Bool.{eqb-true}
 use Rattle.logic.specs.Logic.{Logic, Laws}
 use Rattle.netlist.specs.Board.{Board, WellFormed}
 use Rattle.signal.specs.Calls.{State, bytes16, change_bytes, level, level_before, change, changes_at}
-use Rattle.signal.proofs.Rows.{joined_each, joined_joined, joined_map, counting_all, all_each, all_both}
+use Rattle.std.proofs.lemmas.List.Folds.{flat_map-map}
+use Rattle.signal.proofs.Rows.{joined_each, joined_joined, counting_all, all_each, all_both}
 use Rattle.signal.proofs.Lives.{Whole, recorded}
 use Rattle.signal.proofs.Decoding.{Slot, out, slots, decode, up_from, rising_all, slots_apart, at_tick}
 
@@ -35,7 +36,7 @@ module _ {V : Type 0} {L : Logic V} (laws : Laws L) where
   tick_adds C s t =
       joined_joined change_bytes (change L C s t) C.watches
       ∙ joined_each (λ n. flat_map change_bytes (change L C s t n)) (λ n. adds C s (t, n)) C.watches (all_each (λ n. flat_map change_bytes (change L C s t n) ≡ adds C s (t, n)) (change_adds C s t) C.watches)
-      ∙ sym (joined_map (adds C s) (λ n. (t, n)) C.watches)
+      ∙ sym (flat_map-map (adds C s) (λ n. (t, n)) C.watches)
 
   trace_adds : (C : Board) (s : State V) → Whole laws C s → recorded s ≡ flat_map (adds C s) (slots C.watches 0 s.ticks)
   trace_adds C s w =

@@ -5,7 +5,7 @@ use Rattle.std.proofs.lemmas.List.{length-append, append-nil, take_more}
 use Rattle.logic.specs.Logic.{Logic}
 use Rattle.netlist.specs.Board.{Board}
 use Rattle.signal.specs.Calls.{Change, change_bytes}
-use Rattle.signal.proofs.Rows.{joined_append}
+use Rattle.std.proofs.lemmas.Grind.{flat_map-append}
 use Rattle.signal.proofs.Advancing.{length_bytes}
 use Rattle.tick.specs.Reported.{change_of, made}
 
@@ -26,5 +26,5 @@ module _ {V : Type 0} (L : Logic V) (C : Board) (old new : List V) (t : ℕ) whe
       flat_map change_bytes (flat_map (change_of L C old new t) (take (i + 1) ws)) ≡ flat_map change_bytes (flat_map (change_of L C old new t) (take i ws)) ++ flat_map change_bytes (change_of L C old new t (get_or ws i 0))
   bytes_more ws i lt =
       let f = change_of L C old new t in
-      ap (flat_map change_bytes) (ap (flat_map f) (take_more ws i 0 lt) ∙ joined_append f (take i ws) (get_or ws i 0 ∷ []) ∙ ap (λ l. flat_map f (take i ws) ++ l) (append-nil (f (get_or ws i 0))))
-      ∙ joined_append change_bytes (flat_map f (take i ws)) (f (get_or ws i 0))
+      ap (flat_map change_bytes) (ap (flat_map f) (take_more ws i 0 lt) ∙ flat_map-append f (take i ws) (get_or ws i 0 ∷ []) ∙ ap (λ l. flat_map f (take i ws) ++ l) (append-nil (f (get_or ws i 0))))
+      ∙ flat_map-append change_bytes (flat_map f (take i ws)) (f (get_or ws i 0))
