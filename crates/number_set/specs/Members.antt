@@ -15,11 +15,7 @@ member ws n = bit_at (slice_index ws (n / 64)) (n % 64) == 1
 abbrev pub Summed : List ℕ → ℕ → Type 0
 Summed ws used = (w : ℕ) → w < 64 → bit_at used w ≡ flag (nat_lt w 16 && nat_lt 0 (slice_index ws w))
 
--- no number stands in the set
-abbrev pub IsEmpty : List ℕ → Type 0
-IsEmpty ws = (n : ℕ) → n < 1024 → member ws n ≡ false
-
 -- o is the least number of the set, or there is none
 abbrev pub Least : List ℕ → Option ℕ → Type 0
-Least ws None = IsEmpty ws
+Least ws None = (n : ℕ) → n < 1024 → member ws n ≡ false
 Least ws (Some n) = (n < 1024) × (member ws n ≡ true) × ((m : ℕ) → m < n → member ws m ≡ false)

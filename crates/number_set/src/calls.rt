@@ -1,5 +1,5 @@
-ghost use Rattle.std.specs.Prelude.{◌≡◌, ℕ, ◌<◌, ◌≤◌, ◌↔◌, IsTrue, false, if◌then◌else◌, nat_eq};
-ghost use Rattle.number_set.specs.Members.{member, IsEmpty, Least};
+ghost use Rattle.std.specs.Prelude.{◌≡◌, ℕ, ◌<◌, ◌≤◌, false, if◌then◌else◌, nat_eq};
+ghost use Rattle.number_set.specs.Members.{member, Least};
 
 use crate::set::NumberSet;
 use crate::word::{first, has, with_bit};
@@ -47,11 +47,5 @@ impl NumberSet {
         let word = first(self.used);
         let bit = first(self.words[word as usize]);
         Some((word * 64 + bit) as u16)
-    }
-
-    pub fn is_empty(&self) -> bool
-        ensures { IsTrue result ↔ IsEmpty self.now.words }
-    {
-        self.first().is_none()
     }
 }

@@ -1,4 +1,1 @@
-pub mod Digits
 pub mod Rosters
-pub mod Rings
-pub mod Wheels
