@@ -1,1 +1,3 @@
 pub mod Rosters
+pub mod Rings
+pub mod Wheels

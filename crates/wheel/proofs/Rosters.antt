@@ -1,5 +1,5 @@
 -- What a change of one bit does to a roster. Assumes nothing.
-use Rattle.std.proofs.Common.{◌≡◌, ℕ, zero, suc, ◌+◌, ◌*◌, ◌/◌, ◌%◌, ◌<◌, ◌≤◌, Bool, true, false, cond, ◌&&◌, eqb, ltb, ◌≢◌, List, [], ◌∷◌, length, get_or, set, Some, None, Option, sym, refl, ap, ◌∙◌, ⊎_elim, arith}
+use Rattle.std.proofs.Common.{◌≡◌, ℕ, zero, suc, ◌<◌, Bool, true, false, cond, ◌&&◌, eqb, ◌≢◌, List, [], ◌∷◌, length, get_or, set, Some, None, Option, sym, refl, ap, ◌∙◌, ⊎_elim, arith}
 use Rattle.std.specs.Prelude.{slice_get, is_some}
 use Rattle.std.proofs.lemmas.Bool.{and_left, and_parts, cond-false, cases_eq, cases_Bool, eqb-true, eq-eqb, ne_eqb}
 use Rattle.std.proofs.lemmas.Option.{slice_get-get_or}
@@ -25,7 +25,7 @@ other_place (y ∷ ys) (suc i) (suc j) x n = other_place ys i j x (λ e. n (ap s
 
 -- what a row's set answers, of the roster
 module _ (sets : List NumberSet) (row : ℕ) (d : NumberSet) (in-rows : row < length sets) where
-  row_member : (g : ℕ) → present sets row g ≡ member (get_or sets row d).words g
+  pub row_member : (g : ℕ) → present sets row g ≡ member (get_or sets row d).words g
   row_member g = ap (λ o. has_member o g) (slice_get-get_or sets row d in-rows)
 
   pub row_least : (o : Option ℕ) → number.Least (get_or sets row d).words o → Least sets row o

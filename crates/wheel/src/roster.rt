@@ -8,7 +8,8 @@ pub const ROWS: usize = 65;
 
 // Adds a gate to the row of a tick or removes it, as `on` says.
 pub(crate) fn set_gate(roster: &mut [NumberSet; ROWS], tick: u32, gate: u16, on: bool)
-    ensures { (r g : ℕ) → r < 65 → g < 1024 → present roster.new r g ≡ (if nat_eq r (tick % 65) && g == gate then on else present roster.old r g) }
+    ensures sets { length roster.new ≡ 65 }
+    ensures there { (r g : ℕ) → r < 65 → g < 1024 → present roster.new r g ≡ (if nat_eq r (tick % 65) && g == gate then on else present roster.old r g) }
 {
     roster[(tick % 65) as usize].set(gate, on);
 }

@@ -1,10 +1,11 @@
-ghost use Rattle.std.specs.Prelude.{◌≡◌, ℕ, ◌*◌, ◌/◌, ◌≤◌, min, true, length};
-ghost use Rattle.calendar.specs.Agenda.{entry, first, first_tick, put_answer, sound, new_agenda, before_tick};
-ghost use Rattle.calendar.specs.Table.{rows};
+ghost use Rattle.std.specs.Prelude.{◌≡◌, ℕ, ◌*◌, ◌/◌, ◌<◌, ◌≤◌, min, true, length};
+ghost use Rattle.calendar.specs.Agenda.{put_answer, first, first_tick, sound, new_agenda};
+ghost use Rattle.calendar.specs.Table.{rows, slot};
 ghost use Rattle.wheel.specs.Rings.{table, wheel_agenda, Inside};
 
 use crate::roster::{ROWS, first_wait, set_gate};
 use calendar::calendar::Calendar;
+use calendar::checks::{check_slot, check_turn};
 use calendar::entry::{CalendarFault, Entry, Reason};
 use number_set::set::NumberSet;
 
@@ -13,10 +14,10 @@ use number_set::set::NumberSet;
 #[derive(Drop)]
 pub struct Wheel<'a> {
     codes: &'a mut [u16],
-    gates: usize,
+    gates: u16,
     roster: [NumberSet; ROWS],
     today: u32,
-    count: usize,
+    count: u32,
     soon: Option<u32>,
     ghost wide: { 65 * gates ≤ length codes.now },
     ghost few: { gates ≤ 1024 },
@@ -33,7 +34,7 @@ impl<'a> Wheel<'a> {
     pub fn new(buffer: &'a mut [u16]) -> Wheel<'a>
         ensures { wheel_agenda result.today result.gates result.roster result.codes.now ≡ new_agenda (min (length buffer.old / 65) 1024) (64 * min (length buffer.old / 65) 1024) }
     {
-        let gates = (buffer.len() / 65).min(1024);
+        let gates = (buffer.len() / 65).min(1024) as u16;
         Wheel {
             codes: buffer,
             gates,
@@ -44,45 +45,35 @@ impl<'a> Wheel<'a> {
         }
     }
 
-    // What a put answers, whatever the code.
-    fn may_put(&self, tick: u32, gate: u16) -> Result<(), CalendarFault>
-        ensures { (code : ℕ) → result ≡ put_answer (wheel_agenda self.now.today self.now.gates self.now.roster self.now.codes.now) (entry tick gate code) }
+    fn place(&self, tick: u32, gate: u16) -> usize
+        requires { gate < self.now.gates }
+        ensures value { result ≡ slot self.now.gates tick gate }
+        ensures inside { result < length self.now.codes.now }
     {
-        let place = self.today;
-        let fault = |reason| CalendarFault { reason, place };
-        if gate as usize >= self.gates {
-            return Err(fault(Reason::NoGate));
+        (tick % 65) as usize * self.gates as usize + gate as usize
+    }
+
+    fn check_put(&self, e: Entry) -> Result<(), CalendarFault>
+        ensures { result ≡ put_answer (wheel_agenda self.now.today self.now.gates self.now.roster self.now.codes.now) e }
+    {
+        check_slot(self.today, self.gates, e)?;
+        if self.roster[(e.tick % 65) as usize].contains(e.gate) {
+            return Err(Reason::Twice.at(self.today));
         }
-        if tick <= place || tick - place > 64 {
-            return Err(fault(Reason::BadTick));
-        }
-        if self.roster[(tick % 65) as usize].contains(gate) {
-            return Err(fault(Reason::Twice));
-        }
-        if self.count >= 64 * self.gates {
-            return Err(fault(Reason::Full));
+        if self.count >= self.capacity() {
+            return Err(Reason::Full.at(self.today));
         }
         Ok(())
     }
 
-    // The first entry.
+    // The first entry that waits.
     fn head(&self) -> Option<Entry>
         ensures { result ≡ first (rows (table self.now.gates self.now.roster self.now.codes.now) self.now.today 65 self.now.gates) }
     {
         let tick = self.soon?;
-        let row = (tick % 65) as usize;
-        let gate = self.roster[row].first()?;
-        Some(Entry {
-            tick,
-            gate,
-            code: self.codes[row * self.gates + gate as usize],
-        })
-    }
-
-    fn waits_before(&self, tick: u32) -> bool
-        ensures { result ≡ before_tick (rows (table self.now.gates self.now.roster self.now.codes.now) self.now.today 65 self.now.gates) tick }
-    {
-        self.soon.is_some_and(|t| t < tick)
+        let gate = self.roster[(tick % 65) as usize].first()?;
+        let code = self.codes[self.place(tick, gate)];
+        Some(Entry { tick, gate, code })
     }
 }
 
@@ -94,9 +85,9 @@ impl<'a> Calendar for Wheel<'a> {
     ghost small = { λ w. w.few };
 
     fn put(&mut self, tick: u32, gate: u16, code: u16) -> Result<(), CalendarFault> {
-        self.may_put(tick, gate)?;
-        let row = (tick % 65) as usize;
-        self.codes[row * self.gates + gate as usize] = code;
+        self.check_put(Entry { tick, gate, code })?;
+        let at = self.place(tick, gate);
+        self.codes[at] = code;
         set_gate(&mut self.roster, tick, gate, true);
         self.soon = Some(self.soon.map_or(tick, |t| t.min(tick)));
         self.count += 1;
@@ -116,13 +107,7 @@ impl<'a> Calendar for Wheel<'a> {
     }
 
     fn turn(&mut self, tick: u32) -> Result<(), CalendarFault> {
-        let place = self.today;
-        if tick < place || tick > 16777216 || self.waits_before(tick) {
-            return Err(CalendarFault {
-                reason: Reason::BadTurn,
-                place,
-            });
-        }
+        check_turn(self.today, tick, self.soon)?;
         self.today = tick;
         Ok(())
     }
@@ -132,7 +117,7 @@ impl<'a> Calendar for Wheel<'a> {
     }
 
     fn gates(&self) -> u16 {
-        self.gates as u16
+        self.gates
     }
 
     fn capacity(&self) -> u32 {

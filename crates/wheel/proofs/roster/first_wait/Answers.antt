@@ -1,4 +1,4 @@
-use Rattle.std.proofs.Common.{◌%◌, ◌≡◌, ℕ, sym, ap, ◌∙◌, subst, ⊎_elim, arith, None}
+use Rattle.std.proofs.Common.{◌%◌, sym, ◌∙◌, subst, ⊎_elim, arith, None}
 use Rattle.std.proofs.lemmas.Bool.{cases_eq}
 use Rattle.wheel.specs.Roster.{Least}
 use Rattle.wheel.proofs.Rosters.{row_least, least_some, least_none}
