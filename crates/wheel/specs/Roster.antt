@@ -1,5 +1,5 @@
 -- Which gates stand in a row, a set for each. Assumes nothing.
-use Rattle.std.specs.Prelude.{◌≡◌, ℕ, ◌%◌, ◌<◌, ◌≤◌, Bool, true, false, List, Some, None, Option, slice_get}
+use Rattle.std.specs.Prelude.{◌≡◌, ℕ, ◌%◌, ◌<◌, ◌≤◌, Bool, true, false, List, Some, None, Option, slice_get, MatchOption}
 use Rattle.number_set.specs.declared.set.NumberSet.{NumberSet}
 use Rattle.number_set.specs.Members.{member}
 
@@ -19,5 +19,6 @@ Least sets r (Some g) = (g < 1024) × (present sets r g ≡ true) × ((h : ℕ) 
 
 -- o is the first tick from t on, and before n, for which a gate stands, or there is none
 abbrev pub FirstWait : List NumberSet → ℕ → ℕ → Option ℕ → Type 0
-FirstWait sets t n None = (u : ℕ) → t ≤ u → u < n → Least sets (u % 65) None
-FirstWait sets t n (Some v) = (t ≤ v) × (v < n) × ((g : ℕ) × Least sets (v % 65) (Some g)) × ((u : ℕ) → t ≤ u → u < v → Least sets (u % 65) None)
+FirstWait sets t n o = MatchOption o
+    ((u : ℕ) → t ≤ u → u < n → Least sets (u % 65) None)
+    (λ v. (t ≤ v) × (v < n) × ((g : ℕ) × Least sets (v % 65) (Some g)) × ((u : ℕ) → t ≤ u → u < v → Least sets (u % 65) None))

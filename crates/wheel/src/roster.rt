@@ -1,5 +1,5 @@
-ghost use Rattle.std.specs.Prelude.{◌≡◌, ℕ, ◌%◌, ◌<◌, ◌&&◌, length, if◌then◌else◌, ◌==◌, nat_eq};
-ghost use Rattle.wheel.specs.Roster.{present, FirstWait};
+ghost use Rattle.std.specs.Prelude.{◌≡◌, true, false, Some, None, ℕ, ◌%◌, ◌<◌, ◌&&◌, length, if◌then◌else◌, ◌==◌, nat_eq};
+ghost use Rattle.wheel.specs.Roster.{present, Least, FirstWait};
 
 use number_set::set::NumberSet;
 
@@ -14,14 +14,16 @@ pub(crate) fn set_gate(roster: &mut [NumberSet; ROWS], tick: u32, gate: u16, on:
     roster[(tick % 65) as usize].set(gate, on);
 }
 
+fn waits(roster: &[NumberSet; ROWS], tick: u32) -> bool
+    ensures some { result ≡ true → (g : ℕ) × Least roster.now (tick % 65) (Some g) }
+    ensures none { result ≡ false → Least roster.now (tick % 65) None }
+{
+    roster[(tick % 65) as usize].first().is_some()
+}
+
 // The first tick from `from` on, and before `end`, in whose row a gate stands: a look at 65 rows at most.
 pub(crate) fn first_wait(roster: &[NumberSet; ROWS], from: u32, end: u32) -> Option<u32>
     ensures { FirstWait roster.now from end result }
 {
-    for tick in from..end {
-        if roster[(tick % 65) as usize].first().is_some() {
-            return Some(tick);
-        }
-    }
-    None
+    (from..end).find(|t| waits(roster, *t))
 }
