@@ -8,8 +8,7 @@ use calendar::entry::Entry;
 pub(crate) fn earlier(a: Entry, b: Entry) -> bool
     ensures { result ≡ before a b }
 {
-    a.tick < b.tick
-        || (a.tick == b.tick && (a.gate < b.gate || (a.gate == b.gate && a.code < b.code)))
+    a < b
 }
 
 // The last value rises to its place in the heap that the others are.
