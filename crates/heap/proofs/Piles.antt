@@ -1,5 +1,5 @@
 -- What a push and a pop make of a pile. Assumes nothing.
-use Rattle.std.proofs.Common.{◌≡◌, ℕ, zero, suc, ◌+◌, ◌-◌, ◌/◌, ◌<◌, ◌≤◌, Bool, false, List, [], ◌∷◌, ◌++◌, length, get_or, take, drop, set, sym, refl, ap, ◌∙◌, subst, ⊎_elim, arith, length-append, length-set, length-take, length-take-le, get_or-drop, get_or-set_other, get_or-take}
+use Rattle.std.proofs.Common.{◌≡◌, ℕ, zero, suc, ◌+◌, ◌-◌, ◌/◌, ◌<◌, ◌≤◌, Bool, false, not, List, [], ◌∷◌, ◌++◌, length, get_or, take, drop, set, sym, refl, ap, ◌∙◌, subst, ⊎_elim, arith, length-append, length-set, length-take, length-take-le, get_or-drop, get_or-set_other, get_or-take}
 use Rattle.std.specs.Prelude.{slice_get}
 use Rattle.std.specs.List.Sorted.{IsPermutation}
 use Rattle.std.specs.List.{AllByRecursion}
@@ -10,10 +10,12 @@ use Rattle.std.proofs.lemmas.Bool.{cases_eq}
 use Rattle.calendar.specs.Order.{Strict, in_order, placed}
 use Rattle.heap.specs.Heaps.{Heaped}
 use Rattle.heap.specs.Piles.{Content}
-use Rattle.heap.proofs.Heaps.{Swapped, top}
+use Rattle.heap.proofs.Heaps.{Swapped, tested, top}
 use Rattle.calendar.proofs.Orders.{in_order_shuffled, first_in_order, swaps, length_in_order}
-use Rattle.calendar.proofs.Entries.{strict}
-use Rattle.calendar.specs.Agenda.{before, first}
+use Rattle.calendar.proofs.Entries.{strict, lt_before, ge_before}
+use Rattle.calendar.specs.contracts.entry.EntryPartialOrd.TheImpl.{partial_cmp-value}
+use Rattle.std.specs.Ordering.{partial_lt, partial_ge}
+use Rattle.calendar.specs.Agenda.{before, entry, first}
 use Rattle.calendar.specs.declared.entry.Entry.{Entry}
 
 take_set_in : {X : Type 0} (n : ℕ) (xs : List X) (i : ℕ) (v : X) → take n (set xs i v) ≡ set (take n xs) i v
@@ -133,3 +135,10 @@ room_left xs n p h is room =
     let wide : length xs ≡ p.room = ap (λ q. q.room) is in
     let held : length (in_order before (take n xs)) ≡ length p.waiting = ap (λ q. length q.waiting) is in
     omega (arith, length_part xs n h)
+
+-- tests of two entries of a heap, as the program makes them
+pub tested_ge : (xs : List Entry) (i j : ℕ) (t : Bool) → i < length xs → j < length xs → t ≡ partial_ge partial_cmp-value.it (get_or xs i (entry 0 0 0)) (get_or xs j (entry 0 0 0)) → (d : Entry) → before (get_or xs i d) (get_or xs j d) ≡ not t
+tested_ge xs i j t h k is = tested before xs i j (entry 0 0 0) (not t) h k (ge_before (get_or xs i (entry 0 0 0)) (get_or xs j (entry 0 0 0)) t is)
+
+pub tested_lt : (xs : List Entry) (i j : ℕ) (t : Bool) → i < length xs → j < length xs → t ≡ partial_lt partial_cmp-value.it (get_or xs i (entry 0 0 0)) (get_or xs j (entry 0 0 0)) → (d : Entry) → before (get_or xs i d) (get_or xs j d) ≡ t
+tested_lt xs i j t h k is = tested before xs i j (entry 0 0 0) t h k (lt_before (get_or xs i (entry 0 0 0)) (get_or xs j (entry 0 0 0)) t is)
