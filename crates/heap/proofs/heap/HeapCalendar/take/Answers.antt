@@ -1,5 +1,5 @@
 use Rattle.std.proofs.Common.{◌≡◌, false, ◌∷◌, length, sym, ap, ◌∙◌, subst, arith, length-set}
-use Rattle.calendar.specs.Agenda.{with_waiting, sound, rest, first, rising}
+use Rattle.calendar.specs.Agenda.{with_waiting, sound, rest, rising}
 use Rattle.heap.specs.Heaps.{heap_agenda}
 use Rattle.calendar.specs.Table.{slot}
 use Rattle.heap.specs.Marks.{Marked}

@@ -1,6 +1,5 @@
-use Rattle.std.proofs.Common.{◌≡◌, sym, ap, refl, ◌∙◌, arith}
+use Rattle.std.proofs.Common.{sym, refl, arith}
 use Rattle.std.proofs.lemmas.Result.{err_from_is_err_and}
-use Rattle.calendar.specs.Agenda.{turn_answer}
 use Rattle.heap.specs.Heaps.{heap_agenda}
 use Rattle.calendar.proofs.Faults.{turn_refused_keeps, turn_allowed}
 use Rattle.calendar.proofs.Sound.{sound_turned, sound_rising, sound_due}

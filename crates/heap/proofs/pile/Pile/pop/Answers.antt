@@ -1,4 +1,4 @@
-use Rattle.std.proofs.Common.{◌≡◌, ◌-◌, ap, sym, ◌∙◌, arith, Some}
+use Rattle.std.proofs.Common.{◌-◌, ap, sym, ◌∙◌, arith}
 use Rattle.calendar.specs.Agenda.{before, entry, first, rest}
 use Rattle.calendar.proofs.Entries.{strict}
 use Rattle.heap.proofs.Piles.{pop_ready, popped_length, popped_items, put_back}

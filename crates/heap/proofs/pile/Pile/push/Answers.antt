@@ -1,4 +1,4 @@
-use Rattle.std.proofs.Common.{◌≡◌, ◌<◌, ◌+◌, ◌-◌, length, ap, ◌∙◌, arith, length-set}
+use Rattle.std.proofs.Common.{◌+◌, ◌-◌, ap, ◌∙◌, arith, length-set}
 use Rattle.calendar.specs.Order.{placed}
 use Rattle.calendar.specs.Agenda.{before}
 use Rattle.calendar.proofs.Entries.{strict}
