@@ -1,6 +1,7 @@
 #![tactic(auto)]
 
 mod due;
+mod gates;
 mod level;
 pub mod link;
 pub mod pin;

@@ -25,14 +25,12 @@ pub(crate) fn plan_marked<F: Family, C: Calendar>(
 )
     ensures long { length planned.new ≡ length planned.old }
     ensures planned { Idle F.Family.logic (contents wiring.now.net) levels.now planned.old gates.old.words → (g : ℕ) → g < wiring.now.net.head.gates → slice_index_or planned.new g F.Family.logic.unset ≡ result_at F.Family.logic (contents wiring.now.net) levels.now g }
+    ensures rest { (g : ℕ) → wiring.now.net.head.gates ≤ g → slice_index_or planned.new g F.Family.logic.unset ≡ slice_index_or planned.old g F.Family.logic.unset }
     ensures calendar { Idle F.Family.logic (contents wiring.now.net) levels.now planned.old gates.old.words → C.Calendar.meaning calendar.new ≡ plans F.Family.logic (contents wiring.now.net) levels.now planned.old moment.tick wiring.now.net.head.gates (C.Calendar.meaning calendar.old) }
 {
-    // All below have planned.
-    let mut from = 0;
     while let Some(g) = gates.first() {
         gates.set(g, false);
         plan_gate::<F, C>(calendar, planned, wiring, g, levels, moment);
-        from = g + 1;
     }
 }
 

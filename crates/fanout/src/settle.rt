@@ -1,10 +1,10 @@
-ghost use Rattle.std.specs.Prelude.{◌≡◌, ℕ, ◌<◌, true, false, length, set, if◌then◌else◌, slice_index_or, slice_set};
+ghost use Rattle.std.specs.Prelude.{◌≡◌, ℕ, ◌<◌, true, false, length, set, slice_index_or, slice_set, Some};
 ghost use Rattle.netlist.specs.Looked.{contents};
 ghost use Rattle.number_set.specs.Members.{member};
 ghost use Rattle.signal.specs.Signal.{resolved};
 ghost use Rattle.tick.specs.Plans.{result_at};
 ghost use Rattle.tick.specs.Settled.{drivers_of};
-ghost use Rattle.fanout.specs.Seek.{key_of};
+ghost use Rattle.fanout.specs.Seek.{joint, net_at};
 
 use crate::level::level;
 use crate::pin::Pin;
@@ -28,12 +28,9 @@ pub(crate) fn settle_touched<F: Family>(
     ensures empties { (n : ℕ) → n < 1024 → member nets.new.words n ≡ false }
     ensures readers { (g : ℕ) → g < wiring.now.net.head.gates → member gates.new.words g ≡ false → result_at F.Family.logic (contents wiring.now.net) levels.new g ≡ result_at F.Family.logic (contents wiring.now.net) levels.old g }
 {
-    // All below are settled.
-    let mut from = 0;
     while let Some(n) = nets.first() {
         nets.set(n, false);
         settle_net::<F>(wiring, ports, drives, n, levels, gates);
-        from = n + 1;
     }
 }
 
@@ -53,10 +50,7 @@ fn settle_net<F: Family>(
     ensures readers { (g : ℕ) → g < wiring.now.net.head.gates → member gates.new.words g ≡ false → result_at F.Family.logic (contents wiring.now.net) levels.new g ≡ result_at F.Family.logic (contents wiring.now.net) levels.old g }
 {
     let v = resolve_net::<F>(wiring, ports, drives, n);
-    let fresh = F::code(v);
-    let was = level::<F>(levels, n);
-    let old = F::code(was);
-    if fresh == old {
+    if F::code(v) == F::code(level::<F>(levels, n)) {
         return;
     }
     levels[n as usize] = v;
@@ -74,46 +68,30 @@ fn resolve_net<F: Family>(
     requires { n < 1024 }
     ensures { result ≡ resolved F.Family.logic (drivers_of F.Family.logic (contents wiring.now.net) ports.now drives.now n) }
 {
-    let mut some = n < wiring.net.head.ports;
-    let mut v = start::<F>(some, ports[n as usize]);
-    let mut g = wiring.head(Pin::Output, n);
-    while g < 1024 {
-        v = together::<F>(some, v, drives[g as usize]);
-        some = true;
-        g = wiring.next(Pin::Output, g);
+    let mut so_far = (n < wiring.net.head.ports).then_some(ports[n as usize]);
+    for g in wiring.gates_at(Pin::Output, n) {
+        so_far = Some(joined::<F>(so_far, drives[g as usize]));
     }
-    v
-}
-
-// The port's value where there is one.
-fn start<F: Family>(port: bool, v: F::Value) -> F::Value
-    ensures { result ≡ (if port then v else F.Family.logic.unset) }
-{
-    if port {
-        return v;
-    }
-    F::unset()
+    so_far.unwrap_or(F::unset())
 }
 
 // One driver more.
-fn together<F: Family>(some: bool, was: F::Value, v: F::Value) -> F::Value
-    ensures { result ≡ (if some then F.Family.logic.resolve was v else v) }
+fn joined<F: Family>(so_far: Option<F::Value>, v: F::Value) -> F::Value
+    ensures { result ≡ joint F.Family.logic so_far v }
 {
-    if some {
-        return F::resolve(was, v);
+    match so_far {
+        Some(was) => F::resolve(was, v),
+        None => v,
     }
-    v
 }
 
 // Adds the gates that meet a net at the pin.
 fn mark_readers(wiring: &Wiring, pin: Pin, n: u16, gates: &mut NumberSet)
     requires { n < 1024 }
     ensures kept { (g : ℕ) → g < 1024 → member gates.old.words g ≡ true → member gates.new.words g ≡ true }
-    ensures readers { (g : ℕ) → g < wiring.now.net.head.gates → key_of (contents wiring.now.net) pin g ≡ n → member gates.new.words g ≡ true }
+    ensures readers { (g : ℕ) → g < wiring.now.net.head.gates → net_at (contents wiring.now.net) pin g ≡ Some n → member gates.new.words g ≡ true }
 {
-    let mut g = wiring.head(pin, n);
-    while g < 1024 {
+    for g in wiring.gates_at(pin, n) {
         gates.set(g, true);
-        g = wiring.next(pin, g);
     }
 }
