@@ -1,5 +1,5 @@
 // Two runs side by side, on calendars of any two makes.
-ghost use Rattle.std.specs.Prelude.{◌≡◌, ◌≤◌, min, slice_index_or};
+ghost use Rattle.std.specs.Prelude.{◌≡◌, ◌≤◌, slice_index_or};
 ghost use Rattle.run.specs.Compared.{lowest, contradicts, Compared, LearningContradictsNone};
 ghost use Rattle.run.specs.Handled.{LawOfRuns};
 
@@ -24,7 +24,7 @@ pub fn contradiction<F: Family, C: Calendar, D: Calendar>(
     if first.ticks == 0 {
         return None;
     }
-    let nets = lesser(first.wiring.net.head.nets, second.wiring.net.head.nets);
+    let nets = first.wiring.net.head.nets.min(second.wiring.net.head.nets);
     lowest::<F>(&first.levels, &second.levels, nets)
 }
 
@@ -45,13 +45,4 @@ fn contradicts<F: Family>(v: F::Value, w: F::Value) -> bool
     ensures { result ≡ contradicts F.Family.logic v w }
 {
     F::definite(v) && F::code(v) != F::code(w)
-}
-
-fn lesser(a: u16, b: u16) -> u16
-    ensures { result ≡ min a b }
-{
-    if a < b {
-        return a;
-    }
-    b
 }
