@@ -27,10 +27,8 @@ pub record Counts (f : List ℕ) : Type 0 where
 pub counts : (f : List ℕ) → head_fault f ≡ None → Counts f
 counts f h = record { some = grind (arith, nat_tests); nets = grind (arith, nat_tests); ports = grind (arith, nat_tests); gates = grind (arith, nat_tests); watched = grind (arith, nat_tests); watches = grind (arith, nat_tests) }
 
-pub good : (n at : ℕ) (g : Gate) → gate_fault n at g ≡ None → Good n g
-good n at g h = record {
-  kind_low = grind (arith, nat_tests);
-  kind_high = grind (arith, nat_tests);
+pub good : (n at byte : ℕ) (g : Gate) → gate_fault n at byte g ≡ None → Good n g
+good n at byte g h = record {
   a_below = grind (arith, nat_tests);
   b_below = grind (arith, nat_tests);
   out_below = grind (arith, nat_tests);
@@ -44,7 +42,7 @@ pub in_table : (f : List ℕ) → take (word f 9) (table blank (gates_of f)) ≡
 in_table f = take_at (gates_of f) _ (word f 9) (length-map-range_with_len (gate_no f) 0 (word f 9))
 
 pub gate_good : (f : List ℕ) → gates_fault f ≡ None → (g : ℕ) → g < word f 9 → Good (word f 5) (get_or (table blank (gates_of f)) g blank)
-gate_good f h g lt = rw (table_at blank (gate_no f) (word f 9) g lt) (good (word f 5) (gate_offset g) (gate_no f g) (first_none (gate_no_fault f) (word f 9) g h lt))
+gate_good f h g lt = rw (table_at blank (gate_no f) (word f 9) g lt) (good (word f 5) (gate_offset g) (get_or f (gate_offset g) 0) (gate_no f g) (first_none (gate_no_fault f) (word f 9) g h lt))
 
 pub watch_below : (f : List ℕ) → watches_fault f ≡ None → (i : ℕ) → i < word f 11 → get_or (table 0 (watches_of f)) i 0 < word f 5
 watch_below f h i lt =

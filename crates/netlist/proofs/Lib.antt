@@ -1,3 +1,4 @@
+pub mod Numbers
 mod Firsts
 mod Tables
 mod Outputs

@@ -1,5 +1,5 @@
 -- How far the reader's loops have come. Assumes nothing.
-use Rattle.std.proofs.Common.{◌≡◌, ℕ, ◌+◌, ◌<◌, List, map, set, Some, None, Ok, Err, Option, sym, refl, ap, ◌∙◌, subst, arith}
+use Rattle.std.proofs.Common.{◌≡◌, ℕ, ◌+◌, ◌<◌, List, map, get_or, set, Some, None, Ok, Err, Option, sym, refl, ap, ◌∙◌, subst, arith}
 use Rattle.std.specs.List.{range_with_len}
 use Rattle.netlist.specs.Answers.{answer, first_fault}
 use Rattle.netlist.specs.Parts.{table, blank}
@@ -30,17 +30,17 @@ module _ (f : List ℕ) (h : Head) (is : h ≡ head_of f) (g : ℕ) (gates : Lis
   count : h.gates ≡ word f 9
   count = ap (λ (h : Head). h.gates) is
 
-  pub gates_refused : (e : NetlistFault) → Err e ≡ answer (gate_fault h.nets (gate_offset g) (gate_no f g)) (gate_no f g) → gates_fault f ≡ Some e
+  pub gates_refused : (e : NetlistFault) → Err e ≡ answer (gate_fault h.nets (gate_offset g) (get_or f (gate_offset g) 0) (gate_no f g)) (gate_no f g) → gates_fault f ≡ Some e
   gates_refused e r =
       first_found (gate_no_fault f) e g (word f 9) sofar.fine
-      (ap (λ n. gate_fault n (gate_offset g) (gate_no f g)) (sym nets) ∙ answer_err _ (gate_no f g) e r)
+      (ap (λ n. gate_fault n (gate_offset g) (get_or f (gate_offset g) 0) (gate_no f g)) (sym nets) ∙ answer_err _ (gate_no f g) e r)
       (omega (arith, count))
 
-  pub gates_more : g < 1024 → (v : Gate) → Ok v ≡ answer (gate_fault h.nets (gate_offset g) (gate_no f g)) (gate_no f g) → Gates f (g + 1) (set gates g v)
+  pub gates_more : g < 1024 → (v : Gate) → Ok v ≡ answer (gate_fault h.nets (gate_offset g) (get_or f (gate_offset g) 0) (gate_no f g)) (gate_no f g) → Gates f (g + 1) (set gates g v)
   gates_more few v r =
-      let a = answer_ok (gate_fault h.nets (gate_offset g) (gate_no f g)) (gate_no f g) v r in
+      let a = answer_ok (gate_fault h.nets (gate_offset g) (get_or f (gate_offset g) 0) (gate_no f g)) (gate_no f g) v r in
       record {
-        fine = first_more (gate_no_fault f) g sofar.fine (ap (λ n. gate_fault n (gate_offset g) (gate_no f g)) (sym nets) ∙ a.0);
+        fine = first_more (gate_no_fault f) g sofar.fine (ap (λ n. gate_fault n (gate_offset g) (get_or f (gate_offset g) 0) (gate_no f g)) (sym nets) ∙ a.0);
         held = rw (a.1, sofar.held) (table_more blank (gate_no f) g few);
       }
 

@@ -1,10 +1,11 @@
 -- A netlist's parts.
 use Rattle.std.specs.Prelude.{ℕ, ◌-◌, Bool, false, ◌||◌, List, [], ◌∷◌, ◌++◌, length, replicate, ◌==◌}
 use Rattle.netlist.specs.declared.gate.Gate.{Gate}
+use Rattle.netlist.specs.declared.gate.GateKind.TheVariants.{Buffer}
 
--- an empty record of a table
+-- what fills the rest of a table
 abbrev pub blank : Gate
-blank = record { kind = 0; a = 0; b = 0; out = 0; delay = 0 }
+blank = record { kind = Buffer; a = 0; b = 0; out = 0; delay = 0 }
 
 -- some gate has the net as its output
 abbrev pub is_output : List Gate → ℕ → Bool

@@ -5,7 +5,7 @@ ghost use Rattle.netlist.specs.Checks.{verdict};
 ghost use Rattle.netlist.specs.Looked.{After, Exactly, contents, unfilled};
 
 use crate::fault::NetlistFault;
-use crate::gate::{Gate, Head};
+use crate::gate::{Gate, GateKind, Head};
 use crate::place::Netlist;
 use crate::reader::{all_driven, read_gates, read_head, read_watches};
 
@@ -49,7 +49,7 @@ impl Netlist {
                 watches: 1,
             },
             gates: [Gate {
-                kind: 0,
+                kind: GateKind::Buffer,
                 a: 0,
                 b: 0,
                 out: 0,

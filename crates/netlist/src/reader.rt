@@ -1,11 +1,11 @@
-ghost use Rattle.std.specs.Prelude.{◌≡◌, ◌+◌, ◌-◌, ◌*◌, ◌<◌, ◌≤◌, length};
+ghost use Rattle.std.specs.Prelude.{◌≡◌, ◌+◌, ◌-◌, ◌*◌, ◌<◌, ◌≤◌, length, slice_index};
 ghost use Rattle.netlist.specs.Parts.{blank, table, is_output};
 ghost use Rattle.netlist.specs.File.{word, gate_at, gates_of, watch_at, watches_of};
 ghost use Rattle.netlist.specs.Checks.{head_of, head_fault, gate_fault, gates_fault, watch_fault, watches_fault, nets_fault};
 ghost use Rattle.netlist.specs.Answers.{answer};
 
 use crate::fault::NetlistFault;
-use crate::gate::{Gate, Head};
+use crate::gate::{Gate, GateKind, Head};
 
 fn be16(s: &[u8], at: usize) -> u16
     requires { at + 1 < length s.now }
@@ -56,23 +56,19 @@ pub(crate) fn read_head(bytes: &[u8]) -> Result<Head, NetlistFault>
 
 fn read_gate(bytes: &[u8], at: usize, nets: u16) -> Result<Gate, NetlistFault>
     requires { at + 9 ≤ length bytes.now }
-    ensures { result ≡ answer (gate_fault nets at (gate_at bytes.now at)) (gate_at bytes.now at) }
+    ensures { result ≡ answer (gate_fault nets at (slice_index bytes.now at) (gate_at bytes.now at)) (gate_at bytes.now at) }
 {
-    let kind = bytes[at];
+    let Ok(kind) = GateKind::try_from(bytes[at]) else {
+        return Err(NetlistFault::Kind(at));
+    };
     let a = be16(bytes, at + 1);
     let b = be16(bytes, at + 3);
     let out = be16(bytes, at + 5);
     let delay = be16(bytes, at + 7);
-    if kind == 0 || kind > 11 {
-        return Err(NetlistFault::Kind(at));
-    }
     if a >= nets || b >= nets || out >= nets {
         return Err(NetlistFault::Net(at));
     }
-    if (kind < 3 || kind > 9) && b != 0 {
-        return Err(NetlistFault::Net(at));
-    }
-    if kind > 9 && a != 0 {
+    if (!kind.reads_a() && a != 0) || (!kind.reads_b() && b != 0) {
         return Err(NetlistFault::Net(at));
     }
     if delay == 0 || delay > 64 {
@@ -94,7 +90,7 @@ pub(crate) fn read_gates(bytes: &[u8], head: Head) -> Result<[Gate; 1024], Netli
     ensures { result ≡ answer (gates_fault bytes.now) (table blank (gates_of bytes.now)) }
 {
     let mut gates = [Gate {
-        kind: 0,
+        kind: GateKind::Buffer,
         a: 0,
         b: 0,
         out: 0,

@@ -34,7 +34,6 @@ invariant_of-place c =
       list = x.list;
       wide = x.wide;
       long = x.long;
-      kinds = λ g lt. ((x.good g lt).kind_low, (x.good g lt).kind_high);
       reads = λ g lt. ((x.good g lt).a_below, (x.good g lt).b_below);
       outs = λ g lt. (x.good g lt).out_below;
       unary = λ g lt. (x.good g lt).one_input;
