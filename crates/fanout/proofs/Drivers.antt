@@ -7,9 +7,9 @@ use Rattle.logic.specs.Logic.{Logic}
 use Rattle.netlist.specs.Board.{Board}
 use Rattle.signal.specs.Circuit.{gate, gate_count}
 use Rattle.signal.specs.Signal.{resolved, resolved_onto}
-use Rattle.tick.specs.Settled.{by_port, by_gate, drivers_of}
+use Rattle.tick.specs.Settled.{by_port, by_gate, drivers_of, joined}
 use Rattle.fanout.specs.declared.pin.Pin.TheVariants.{Output}
-use Rattle.fanout.specs.Seek.{joint, meets, gates_at, numbers_from}
+use Rattle.fanout.specs.Seek.{meets, gates_at, numbers_from}
 
 module _ {V : Type 0} (L : Logic V) where
   -- what the drivers so far and those to come make together
@@ -17,7 +17,7 @@ module _ {V : Type 0} (L : Logic V) where
   ended None vs = resolved L vs
   ended (Some v) vs = resolved_onto L v vs
 
-  pub ended_more : (o : Option V) (v : V) (vs : List V) → ended o (v ∷ vs) ≡ ended (Some (joint L o v)) vs
+  pub ended_more : (o : Option V) (v : V) (vs : List V) → ended o (v ∷ vs) ≡ ended (Some (joined L o v)) vs
   ended_more None v vs = refl
   ended_more (Some w) v vs = refl
 

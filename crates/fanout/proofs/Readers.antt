@@ -1,9 +1,13 @@
 -- Which gates a net's level reaches.
-use Rattle.std.proofs.Common.{◌≡◌, ℕ, zero, suc, ◌+◌, ◌-◌, ◌<◌, ◌≤◌, Bool, true, false, cond, ◌&&◌, ◌||◌, eqb, leb, List, [], ◌∷◌, get_or, set, Some, None, sym, refl, ap, ◌∙◌, ⊎_elim, arith, get_or-set_other}
+use Rattle.std.proofs.Common.{◌≡◌, ℕ, zero, suc, ◌+◌, ◌-◌, ◌<◌, ◌≤◌, Bool, true, false, cond, ◌||◌, eqb, List, [], ◌∷◌, get_or, set, Some, sym, refl, ap, ◌∙◌, ⊎_elim, arith, get_or-set_other}
+use Rattle.std.specs.Bool.{then_some}
 use Rattle.std.specs.List.{range_with_len, filter, list_any}
-use Rattle.std.proofs.lemmas.Bool.{cond-true, cases_eq, cases_Bool, both_ways, eq-eqb}
+use Rattle.std.proofs.lemmas.Bool.{cases_eq, cases_Bool, both_ways, eq-eqb}
 use Rattle.logic.specs.Logic.{Logic}
 use Rattle.netlist.specs.Board.{Board}
+use Rattle.netlist.specs.Kinds.{kind_number, reads_a, reads_b}
+use Rattle.netlist.specs.declared.gate.GateKind.{GateKind}
+use Rattle.netlist.specs.declared.gate.GateKind.TheVariants.{Buffer, Not, And, Or, Xor, Nand, Nor, Xnor, Tri, PullUp, PullDown}
 use Rattle.number_set.specs.Members.{member}
 use Rattle.signal.specs.Circuit.{gate, gate_count, operate}
 use Rattle.tick.specs.Plans.{result_at}
@@ -12,28 +16,26 @@ use Rattle.fanout.specs.declared.pin.Pin.TheVariants.{First, Second}
 use Rattle.fanout.specs.Seek.{same_net, net_at, meets, gates_at}
 
 -- a kind's result follows from the pins that it uses
-operate_same : {V : Type 0} (L : Logic V) (k : ℕ) (a a' b b' : V) → (leb k 9 ≡ true → a ≡ a') → ((leb 3 k && leb k 9) ≡ true → b ≡ b') → operate L k a b ≡ operate L k a' b'
-operate_same L zero a a' b b' f g = refl
-operate_same L (suc zero) a a' b b' f g = ap (λ x. L.and x x) (f refl)
-operate_same L (suc (suc zero)) a a' b b' f g = ap L.not (f refl)
-operate_same L (suc (suc (suc zero))) a a' b b' f g = λ i. L.and (f refl i) (g refl i)
-operate_same L (suc (suc (suc (suc zero)))) a a' b b' f g = λ i. L.or (f refl i) (g refl i)
-operate_same L (suc (suc (suc (suc (suc zero))))) a a' b b' f g = λ i. L.xor (f refl i) (g refl i)
-operate_same L (suc (suc (suc (suc (suc (suc zero)))))) a a' b b' f g = λ i. L.not (L.and (f refl i) (g refl i))
-operate_same L (suc (suc (suc (suc (suc (suc (suc zero))))))) a a' b b' f g = λ i. L.not (L.or (f refl i) (g refl i))
-operate_same L (suc (suc (suc (suc (suc (suc (suc (suc zero)))))))) a a' b b' f g = λ i. L.not (L.xor (f refl i) (g refl i))
-operate_same L (suc (suc (suc (suc (suc (suc (suc (suc (suc zero))))))))) a a' b b' f g = λ i. L.tri (f refl i) (g refl i)
-operate_same L (suc (suc (suc (suc (suc (suc (suc (suc (suc (suc zero)))))))))) a a' b b' f g = refl
-operate_same L (suc (suc (suc (suc (suc (suc (suc (suc (suc (suc (suc zero))))))))))) a a' b b' f g = refl
-operate_same L (suc (suc (suc (suc (suc (suc (suc (suc (suc (suc (suc (suc k)))))))))))) a a' b b' f g = refl
+operate_same : {V : Type 0} (L : Logic V) (k : GateKind) (a a' b b' : V) → (reads_a k ≡ true → a ≡ a') → (reads_b k ≡ true → b ≡ b') → operate L (kind_number k) a b ≡ operate L (kind_number k) a' b'
+operate_same L Buffer a a' b b' f g = ap (λ x. L.and x x) (f refl)
+operate_same L Not a a' b b' f g = ap L.not (f refl)
+operate_same L And a a' b b' f g = λ i. L.and (f refl i) (g refl i)
+operate_same L Or a a' b b' f g = λ i. L.or (f refl i) (g refl i)
+operate_same L Xor a a' b b' f g = λ i. L.xor (f refl i) (g refl i)
+operate_same L Nand a a' b b' f g = λ i. L.not (L.and (f refl i) (g refl i))
+operate_same L Nor a a' b b' f g = λ i. L.not (L.or (f refl i) (g refl i))
+operate_same L Xnor a a' b b' f g = λ i. L.not (L.xor (f refl i) (g refl i))
+operate_same L Tri a a' b b' f g = λ i. L.tri (f refl i) (g refl i)
+operate_same L PullUp a a' b b' f g = refl
+operate_same L PullDown a a' b b' f g = refl
 
 -- a gate that meets the net at neither input gives what it gave
 pub reads_other : {V : Type 0} (L : Logic V) (C : Board) (levels : List V) (n : ℕ) (v : V) (g : ℕ) → (net_at C First g ≡ Some n → ⊥) → (net_at C Second g ≡ Some n → ⊥) → result_at L C (set levels n v) g ≡ result_at L C levels g
 reads_other L C levels n v g first second =
     let x = gate C g in
     operate_same L x.kind (get_or (set levels n v) x.a L.unset) (get_or levels x.a L.unset) (get_or (set levels n v) x.b L.unset) (get_or levels x.b L.unset)
-    (λ on. get_or-set_other levels n x.a v L.unset (λ e. first (cond-true (leb x.kind 9) (Some x.a) None on ∙ ap Some e)))
-    (λ on. get_or-set_other levels n x.b v L.unset (λ e. second (cond-true (leb 3 x.kind && leb x.kind 9) (Some x.b) None on ∙ ap Some e)))
+    (λ on. get_or-set_other levels n x.a v L.unset (λ e. first (ap (λ b. then_some b x.a) on ∙ ap Some e)))
+    (λ on. get_or-set_other levels n x.b v L.unset (λ e. second (ap (λ b. then_some b x.b) on ∙ ap Some e)))
 
 abbrev pub has : List ℕ → ℕ → Bool
 has gs h = list_any (λ g. eqb h g) gs

@@ -1,9 +1,11 @@
 -- The gates that meet a net. Assumes nothing.
-use Rattle.std.specs.Prelude.{◌≡◌, ℕ, ◌+◌, ◌-◌, ◌<◌, Bool, false, cond, ◌&&◌, List, [], ◌∷◌, filter, find, Some, None, Option, ◌==◌, nat_le, slice_index_or}
+use Rattle.std.specs.Prelude.{◌≡◌, ℕ, ◌+◌, ◌-◌, ◌<◌, Bool, false, List, filter, find, Some, None, Option, ◌==◌, slice_index_or}
+use Rattle.std.specs.Bool.{then_some}
 use Rattle.std.specs.List.{range_with_len}
 use Rattle.netlist.specs.declared.gate.Gate.{Gate}
 use Rattle.logic.specs.Logic.{Logic}
 use Rattle.netlist.specs.Board.{Board}
+use Rattle.netlist.specs.Kinds.{reads_a, reads_b}
 use Rattle.number_set.specs.Members.{member}
 use Rattle.signal.specs.Circuit.{gate, gate_count}
 use Rattle.tick.specs.Plans.{result_at}
@@ -13,8 +15,8 @@ use Rattle.fanout.specs.declared.pin.Pin.TheVariants.{Output, First, Second}
 -- the net at a pin, if the gate's kind uses that pin
 abbrev pub pin_net : Pin → Gate → Option ℕ
 pin_net Output g = Some g.out
-pin_net First g = cond (nat_le g.kind 9) (Some g.a) None
-pin_net Second g = cond (nat_le 3 g.kind && nat_le g.kind 9) (Some g.b) None
+pin_net First g = then_some (reads_a g.kind) g.a
+pin_net Second g = then_some (reads_b g.kind) g.b
 
 abbrev pub net_at : Board → Pin → ℕ → Option ℕ
 net_at C p g = pin_net p (gate C g)
@@ -55,8 +57,3 @@ Nexts C p next = (g : ℕ) → g < gate_count C → slice_index_or next g None �
 -- every gate that does not stand in the set has planned what it gives on the levels
 abbrev pub Idle : {V : Type 0} → Logic V → Board → List V → List V → List ℕ → Type 0
 Idle L C levels planned words = (g : ℕ) → g < gate_count C → member words g ≡ false → slice_index_or planned g L.unset ≡ result_at L C levels g
-
--- one driver more
-abbrev pub joint : {V : Type 0} → Logic V → Option V → V → V
-joint L (Some was) v = L.resolve was v
-joint L None v = v

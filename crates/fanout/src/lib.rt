@@ -2,7 +2,6 @@
 
 mod due;
 mod gates;
-mod level;
 pub mod link;
 pub mod pin;
 mod plan;

@@ -18,9 +18,8 @@ fn net_at(gate: Gate, pin: Pin) -> Option<u16>
 {
     match pin {
         Pin::Output => Some(gate.out),
-        Pin::First if gate.kind <= 9 => Some(gate.a),
-        Pin::Second if gate.kind >= 3 && gate.kind <= 9 => Some(gate.b),
-        _ => None,
+        Pin::First => gate.kind.reads_a().then_some(gate.a),
+        Pin::Second => gate.kind.reads_b().then_some(gate.b),
     }
 }
 

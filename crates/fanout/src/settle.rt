@@ -4,13 +4,13 @@ ghost use Rattle.number_set.specs.Members.{member};
 ghost use Rattle.signal.specs.Signal.{resolved};
 ghost use Rattle.tick.specs.Plans.{result_at};
 ghost use Rattle.tick.specs.Settled.{drivers_of};
-ghost use Rattle.fanout.specs.Seek.{joint, net_at};
+ghost use Rattle.fanout.specs.Seek.{net_at};
 
-use crate::level::level;
 use crate::pin::Pin;
 use crate::wiring::Wiring;
 use logic::family::Family;
 use number_set::set::NumberSet;
+use tick::settle::joined;
 
 // Resolves each net of the set, and empties it; adds every gate that reads a net whose level
 // changes to `gates`: a gate that does not stand there gives what it gave.
@@ -50,7 +50,7 @@ fn settle_net<F: Family>(
     ensures readers { (g : ℕ) → g < wiring.now.net.head.gates → member gates.new.words g ≡ false → result_at F.Family.logic (contents wiring.now.net) levels.new g ≡ result_at F.Family.logic (contents wiring.now.net) levels.old g }
 {
     let v = resolve_net::<F>(wiring, ports, drives, n);
-    if F::code(v) == F::code(level::<F>(levels, n)) {
+    if F::code(v) == F::code(levels[n as usize]) {
         return;
     }
     levels[n as usize] = v;
@@ -73,16 +73,6 @@ fn resolve_net<F: Family>(
         so_far = Some(joined::<F>(so_far, drives[g as usize]));
     }
     so_far.unwrap_or(F::unset())
-}
-
-// One driver more.
-fn joined<F: Family>(so_far: Option<F::Value>, v: F::Value) -> F::Value
-    ensures { result ≡ joint F.Family.logic so_far v }
-{
-    match so_far {
-        Some(was) => F::resolve(was, v),
-        None => v,
-    }
 }
 
 // Adds the gates that meet a net at the pin.

@@ -3,8 +3,8 @@ use Rattle.std.proofs.lemmas.List.{get_or_default}
 use Rattle.std.specs.Bool.{then_some}
 use Rattle.std.specs.Option.{unwrap_or}
 use Rattle.netlist.specs.Looked.{contents}
+use Rattle.tick.specs.Settled.{joined}
 use Rattle.fanout.specs.Left.{left}
-use Rattle.fanout.specs.Seek.{joint}
 use Rattle.fanout.proofs.Chains.{chain_first}
 use Rattle.fanout.proofs.Drivers.{ended, ended_none, ended_more, ended_all, drive}
 use Rattle.fanout.proofs.settle.resolve_net.Goals as goal
@@ -37,7 +37,7 @@ loop-g-preserved g c =
     let v = get_or_default drives h c.index-drives-g.result L.unset (omega (arith, c.type_inv.drives, inside)) in (
       tt,
       tt,
-      ap (λ w. ended L (Some w) (map d rest)) (c.joined.ensures ∙ ap (joint L so_far) v)
+      ap (λ w. ended L (Some w) (map d rest)) (c.joined.ensures ∙ ap (joined L so_far) v)
           ∙ sym (ended_more L so_far (d h) (map d rest))
           ∙ sym (ap (λ gs. ended L so_far (map d gs)) step)
           ∙ c.loop-g.invariant.2,
