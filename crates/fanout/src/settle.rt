@@ -35,6 +35,7 @@ pub(crate) fn settle_touched<F: Family>(
 }
 
 // One net, and the gates that read it if its level changes.
+// Kept as it is: the wiring, the ports and the drives are three parameters, since a struct of borrowed tables is no plainer: each clause would name `driven.now.wiring.now.net` for `wiring.now.net`.
 fn settle_net<F: Family>(
     wiring: &Wiring,
     ports: &[F::Value; 1024],
