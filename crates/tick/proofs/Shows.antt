@@ -1,5 +1,5 @@
 -- How the levels of the nets come together.
-use Rattle.std.proofs.Common.{◌≡◌, ℕ, ◌+◌, ◌-◌, ◌<◌, ◌≤◌, Bool, true, false, cond, ltb, List, [], ◌∷◌, ◌++◌, Some, None, Option, length, get_or, take, drop, set, replicate, unwrap_or, sym, refl, ap, ◌∙◌, ⊎_elim, append_assoc, arith, length-append, length-drop, length-set, get_or-set_other, get_or-set_same}
+use Rattle.std.proofs.Common.{◌≡◌, ℕ, ◌+◌, ◌-◌, ◌<◌, ◌≤◌, Bool, true, false, cond, ltb, List, [], ◌∷◌, ◌++◌, Some, Option, length, get_or, take, drop, set, replicate, unwrap_or, sym, refl, ap, ◌∙◌, ⊎_elim, append_assoc, arith, length-append, length-drop, length-set, get_or-set_other, get_or-set_same}
 use Rattle.std.specs.Bool.{then_some}
 use Rattle.std.specs.List.{range_with_len, flat_map}
 use Rattle.std.proofs.lemmas.List.{append-nil, length-replicate, length-take-le, get_or-replicate, get_or_append_left, get_or-append_right, get_or-take, get_or-drop}

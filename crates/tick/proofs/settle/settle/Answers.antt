@@ -2,7 +2,7 @@ use Rattle.std.proofs.Common.{◌≡◌, ℕ, ◌+◌, ◌<◌, ◌≤◌, true,
 use Rattle.std.specs.Bool.{then_some}
 use Rattle.std.proofs.lemmas.List.{get_or-take, get_or_default, length-take-le, length-replicate}
 use Rattle.netlist.specs.Parts.{blank}
-use Rattle.signal.specs.Circuit.{gate, gate_count}
+use Rattle.signal.specs.Circuit.{gate_count}
 use Rattle.netlist.specs.Looked.{contents}
 use Rattle.netlist.proofs.Contents.{gate_count as gates-count}
 use Rattle.tick.specs.Settled.{drivers_below}
