@@ -22,6 +22,7 @@ fn read_number(digits: &[u8]) -> Option<u32>
 }
 
 // The character at a place of a line, or 0 past its end.
+// Kept as it is: no command word has a letter 0, and cases of Some('w') and so on would be no plainer.
 fn letter(line: &[u8], i: usize) -> char
     ensures { result ≡ slice_index line.now i }
 {
@@ -65,11 +66,9 @@ fn read_from(line: &[u8], at: usize) -> Option<u32>
 
 // The number that stands from a place on, before a space and a name of `width` bytes.
 fn read_before(line: &[u8], at: usize, width: usize) -> Option<u32>
-    requires near { at ≤ 8 }
-    requires short { width ≤ 4 }
     ensures { result ≡ number_before line.now at width }
 {
-    let end = line.len().checked_sub(width + 1)?;
+    let end = line.len().checked_sub(width)?.checked_sub(1)?;
     match line[end] as char {
         ' ' => read_number(line.get(at..end)?),
         _ => None,

@@ -71,6 +71,7 @@ impl<'a> Writer<'a> {
         ensures same_reference { self.new.out.ghost_name ≡ self.old.out.ghost_name }
         ensures lays { Lays self.old.out.now self.old.end (F.Named.naming.name v) self.new.end self.new.out.now }
     {
+        // Kept as it is: a family gives the bytes of a name by their numbers, so there is no slice to go over.
         for i in 0..F::name_width() {
             self.put(F::name_byte(v, i));
         }
