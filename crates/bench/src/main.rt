@@ -4,24 +4,19 @@
 
 #![tactic(auto)]
 
-ghost use Rattle.std.specs.Prelude.{◌≤◌};
-ghost use denote.Memory.{mem};
-
 use board_file::file::board_bytes;
 use board_file::lines::refusal_line;
-use calendar::calendar::Calendar;
 use calendar::entry::Entry;
 use heap::heap::Heap;
-use logic::named::Named;
 use netlist::look_over::look_over;
 use netlist::place::Netlist;
 use nine_values::nine::NineValues;
 use run::state::Run;
 use run::state::compare::contradiction;
 use script_stream::stream::work_script;
-use std::alloc::Global;
+use script_stream::verdict::Verdict;
 use std::fs::File;
-use std::io::{BufWriter, Read, Stdin, Stdout, Write};
+use std::io::{BufWriter, Write};
 use std::{env, io};
 use wheel::wheel::Wheel;
 
@@ -56,16 +51,12 @@ fn work(rt: &HostRuntime, board: Netlist) -> io::Result<()> {
     let mut entries = vec![in heap; BLANK; 65_536]?;
     let mut input = rt.stdin();
     let mut sink = BufWriter::new(heap, rt.stdout())?;
-    serve::<NineValues, Heap, Stdin, BufWriter<Stdout>>(
-        board,
-        Heap::new(entries.as_mut_slice()),
-        &mut input,
-        &mut sink,
-        heap,
-    )
+    let mut run: Run<NineValues, Heap> = Run::open(board, Heap::new(entries.as_mut_slice()));
+    work_script(&mut run, &mut input, &mut sink, heap)
 }
 
-// Works the script on standard input and the one in a file, on two runs of one board.
+// Works the script on standard input and the one in a file, on two runs of one board, and says whether the second run contradicts
+// a definite level of the first.
 fn work_both(rt: &HostRuntime, board: Netlist, again: Netlist, name: &str) -> io::Result<()> {
     let heap = rt.alloc();
     let mut entries = vec![in heap; BLANK; 65_536]?;
@@ -73,58 +64,10 @@ fn work_both(rt: &HostRuntime, board: Netlist, again: Netlist, name: &str) -> io
     let mut input = rt.stdin();
     let mut file = File::open(rt, name)?;
     let mut sink = BufWriter::new(heap, rt.stdout())?;
-    compare::<NineValues, Heap, Wheel, Stdin, File, BufWriter<Stdout>>(
-        (board, again),
-        Heap::new(entries.as_mut_slice()),
-        Wheel::new(codes.as_mut_slice()),
-        &mut input,
-        &mut file,
-        &mut sink,
-        heap,
-    )
-}
-
-// Works a script on a new run of a board. The run is held by value, so that its parts must be of a size that memory has.
-fn serve<F: Named + Drop, C: Calendar + Drop, R: Read, W: Write>(
-    board: Netlist,
-    calendar: C,
-    input: &mut R,
-    sink: &mut W,
-    heap: Global,
-) -> io::Result<()>
-    requires calendar { (mem C.row).size ≤ 1048576 }
-    requires value { (mem F.Value.row).size ≤ 64 }
-{
-    let mut run: Run<F, C> = Run::open(board, calendar);
-    work_script(&mut run, input, sink, heap)
-}
-
-// Works a script on each of two runs, and says whether the second contradicts a definite level of the first.
-fn compare<F: Named + Drop, C: Calendar + Drop, D: Calendar + Drop, R: Read, S: Read, W: Write>(
-    boards: (Netlist, Netlist),
-    calendar: C,
-    other_calendar: D,
-    input: &mut R,
-    other_input: &mut S,
-    sink: &mut W,
-    heap: Global,
-) -> io::Result<()>
-    requires calendar { (mem C.row).size ≤ 1048576 }
-    requires other { (mem D.row).size ≤ 1048576 }
-    requires value { (mem F.Value.row).size ≤ 64 }
-{
-    let (board, other_board) = boards;
-    let mut first: Run<F, C> = Run::open(board, calendar);
-    let mut second: Run<F, D> = Run::open(other_board, other_calendar);
-    work_script(&mut first, input, sink, heap)?;
-    work_script(&mut second, other_input, sink, heap)?;
-    say_verdict(contradiction(&first, &second), sink)?;
+    let mut first: Run<NineValues, Heap> = Run::open(board, Heap::new(entries.as_mut_slice()));
+    let mut second: Run<NineValues, Wheel> = Run::open(again, Wheel::new(codes.as_mut_slice()));
+    work_script(&mut first, &mut input, &mut sink, heap)?;
+    work_script(&mut second, &mut file, &mut sink, heap)?;
+    writeln!(sink, "{}", Verdict(contradiction(&first, &second)))?;
     sink.flush()
-}
-
-fn say_verdict<W: Write>(net: Option<u16>, sink: &mut W) -> io::Result<()> {
-    match net {
-        None => sink.write_all(b"agrees\n"),
-        Some(n) => writeln!(sink, "contradicts {n}"),
-    }
 }

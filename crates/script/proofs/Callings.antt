@@ -180,6 +180,13 @@ module _ {F D V : Type 0} (f : Family F V) (c : Calendar D) where
       let w = same C s h in
       (subst (λ t. Has f c C t y) w.same_after r.0, r.1 ∙ w.same_answer)
 
+  -- a number that was cut to 16 bits
+  pub wakes_alike : (x : Run F D V f c) (m g k : ℕ) → m ≡ min g 65535 → Interchange x (wake m k) (wake g k)
+  wakes_alike x m g k is = λ C s h. subst (λ j. Alike f.logic C s (wake j k) (wake g k)) (sym is) (wake_narrow f.logic C s (kept_rules C s x h) g k)
+
+  pub drives_alike : (x : Run F D V f c) (m p k : ℕ) → m ≡ min p 65535 → Interchange x (drive m k) (drive p k)
+  drives_alike x m p k is = λ C s h. subst (λ j. Alike f.logic C s (drive j k) (drive p k)) (sym is) (drive_narrow f.logic C s (kept_rules C s x h) p k)
+
 module _ {F D V : Type 0} (f : Family F V) (n : Named F V) (c : Calendar D) (line : ℕ) (k : Command) (x y : Run F D V f c) (out trace : List ℕ) where
   pub obeys_refused : (e : RunFault) (trace' : List ℕ) → Called f c (call_of k) x y (refused (run.number e) (run.place e)) → (y ≡ x) × (trace' ≡ trace) →
       Obeys f n c line k x out trace y out trace' (Err (Refused line e))
@@ -276,9 +283,9 @@ module _ {F D V : Type 0} (f : Family F V) (n : Named F V) (c : Calendar D) (lin
       subst (λ l. Obeys f n c line (Advance ticks) x out trace y out trace' (Err (Refused l e.fault))) (sym q.1)
       (obeys_refused f n c line (Advance ticks) x y out trace e.fault trace' (subst (λ a. Called f c (advance ticks most_trace) x y a) (ap (λ r. told_trace r trace') q.0) advance_called) (works.unchanged e.fault q.0))
 
-  pub advance_ok : Laws f.logic → NamingLaws n.naming → length trace' ≡ length trace → (finished bytes : ℕ) → at_line line w ≡ Ok (finished, bytes) → (front out' : List ℕ) (end : ℕ) → 40000 ≤ length out →
-      front ≡ take bytes trace' → Lays out 0 (trace_text f.logic n.naming front finished) end out' → Obeys f n c line (Advance ticks) x out trace y out' trace' (Ok end)
-  advance_ok laws spelling same finished bytes at front out' end room is lays =
+  pub advance_ok : Laws f.logic → NamingLaws n.naming → length trace' ≡ length trace → (finished bytes : ℕ) → at_line line w ≡ Ok (finished, bytes) → (out' : List ℕ) (end : ℕ) → 40000 ≤ length out →
+      Lays out 0 (trace_text f.logic n.naming (take bytes trace') finished) end out' → Obeys f n c line (Advance ticks) x out trace y out' trace' (Ok end)
+  advance_ok laws spelling same finished bytes at out' end room lays =
       obeys_granted f n c line (Advance ticks) x y out trace (advanced finished (take bytes trace')) out' trace' end (λ i p e. let z : ◌≡◌ {A = ℕ} 0 1 = cc in omega arith)
       (subst (λ a. Called f c (advance ticks most_trace) x y a) (ap (λ r. told_trace r trace') (at_line_ok line w (finished, bytes) at)) advance_called)
       (λ C s h none a. text C s h none a)
@@ -293,7 +300,7 @@ module _ {F D V : Type 0} (f : Family F V) (n : Named F V) (c : Calendar D) (lin
           let early = in_time laws N C s ticks most_trace none in
           let count : finished ≡ completes L C s ticks s.ticks most_trace = cc in
           let written-bytes : take bytes trace' ≡ flat_map change_bytes (written L C s ticks most_trace) = cc in
-          let lines : trace_text L N front finished ≡ granted L N C s (Advance ticks) =
-          (λ i. trace_text L N ((is ∙ written-bytes) i) (count i)) ∙ trace_lines L N (written L C s ticks most_trace) (completes L C s ticks s.ticks most_trace) (written_plain laws N C s wf ticks early) in
+          let lines : trace_text L N (take bytes trace') finished ≡ granted L N C s (Advance ticks) =
+          (λ i. trace_text L N (written-bytes i) (count i)) ∙ trace_lines L N (written L C s ticks most_trace) (completes L C s ticks s.ticks most_trace) (written_plain laws N C s wf ticks early) in
           let short = advance_short laws N C s spelling wf ticks early in
           lays_whole (granted L N C s (Advance ticks)) (omega arith) (subst (λ t. Lays out 0 t end out') lines lays)

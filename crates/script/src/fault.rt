@@ -34,9 +34,9 @@ impl ScriptFault {
         ensures { result ≡ line_of self }
     {
         match self {
-            ScriptFault::SmallBuffers(line) => line,
-            ScriptFault::NoCommand(line) => line,
-            ScriptFault::Refused(line, _) => line,
+            ScriptFault::SmallBuffers(line)
+            | ScriptFault::NoCommand(line)
+            | ScriptFault::Refused(line, _) => line,
         }
     }
 
@@ -56,8 +56,7 @@ impl ScriptFault {
         ensures { result ≡ letter self }
     {
         match self {
-            ScriptFault::SmallBuffers(_) => b's',
-            ScriptFault::NoCommand(_) => b's',
+            ScriptFault::SmallBuffers(_) | ScriptFault::NoCommand(_) => b's',
             ScriptFault::Refused(_, fault) => fault.letter(),
         }
     }
@@ -67,8 +66,7 @@ impl ScriptFault {
         ensures { result ≡ place self }
     {
         match self {
-            ScriptFault::SmallBuffers(line) => line,
-            ScriptFault::NoCommand(line) => line,
+            ScriptFault::SmallBuffers(line) | ScriptFault::NoCommand(line) => line,
             ScriptFault::Refused(_, fault) => fault.place(),
         }
     }

@@ -1,7 +1,6 @@
-ghost use Rattle.std.specs.Prelude.{◌≡◌, ℕ, ◌≤◌, min, List, length, take};
+ghost use Rattle.std.specs.Prelude.{◌≡◌, ℕ, ◌≤◌, min, length};
 ghost use Rattle.script_text.specs.Commands.{command};
 ghost use Rattle.script_text.specs.Laid.{Lays};
-ghost use Rattle.script_text.specs.declared.command.Command.TheVariants.{Wake, Drive, Advance, Read};
 ghost use Rattle.script.specs.Answers.{Obeys, Answered, note_text, roomy};
 ghost use Rattle.script.specs.Faults.{at_line, noted};
 
@@ -52,13 +51,16 @@ fn say(out: &mut [u8], fault: ScriptFault) -> usize
     ensures lays { Lays out.old 0 (note_text (noted fault)) result out.new }
     ensures short { length (note_text (noted fault)) ≤ 100 }
 {
-    let l = fault.line();
-    let n = fault.number();
-    let k = fault.letter();
-    let p = fault.place();
-    say_fault(out, l, n as u32, k, p)
+    say_fault(
+        out,
+        fault.line(),
+        fault.number() as u32,
+        fault.letter(),
+        fault.place(),
+    )
 }
 
+// Makes the call of a command, and writes what it answers.
 fn obey<F: Named, C: Calendar>(
     run: &mut Run<F, C>,
     command: Command,
@@ -71,91 +73,34 @@ fn obey<F: Named, C: Calendar>(
     ensures { Obeys F.Family F.Named.own C.Calendar line command run.old out.old trace.old run.new out.new trace.new result }
 {
     match command {
-        Command::Wake(gate, code) => wake(run, gate, code, line, out),
-        Command::Drive(port, code) => drive(run, port, code, line, out),
-        Command::Advance(ticks) => advance(run, ticks, line, out, trace),
-        Command::Read(net) => read(run, net, line, out),
+        Command::Wake(gate, code) => {
+            at_line(run.wake(narrow(gate), code), line)?;
+            Ok(say_ok(out))
+        }
+        Command::Drive(port, code) => {
+            at_line(run.drive(narrow(port), code), line)?;
+            Ok(say_ok(out))
+        }
+        Command::Advance(ticks) => {
+            let (done, bytes) = at_line(run.advance(ticks, trace), line)?;
+            Ok(say_trace::<F>(out, &trace[..bytes], done))
+        }
+        Command::Read(net) => {
+            let (code, definite) = at_line(run.read(narrow(net)), line)?;
+            Ok(say_level::<F>(out, code, definite))
+        }
     }
-}
-
-fn wake<F: Named, C: Calendar>(
-    run: &mut Run<F, C>,
-    gate: u32,
-    code: u16,
-    line: u32,
-    out: &mut [u8],
-) -> Result<usize, ScriptFault>
-    requires { 40000 ≤ length out.old }
-    ensures { (trace : List ℕ) → Obeys F.Family F.Named.own C.Calendar line (Wake gate code) run.old out.old trace run.new out.new trace result }
-{
-    at_line(run.wake(narrow(gate), code), line)?;
-    Ok(say_ok(out))
-}
-
-fn drive<F: Named, C: Calendar>(
-    run: &mut Run<F, C>,
-    port: u32,
-    code: u16,
-    line: u32,
-    out: &mut [u8],
-) -> Result<usize, ScriptFault>
-    requires { 40000 ≤ length out.old }
-    ensures { (trace : List ℕ) → Obeys F.Family F.Named.own C.Calendar line (Drive port code) run.old out.old trace run.new out.new trace result }
-{
-    at_line(run.drive(narrow(port), code), line)?;
-    Ok(say_ok(out))
-}
-
-fn advance<F: Named, C: Calendar>(
-    run: &mut Run<F, C>,
-    ticks: u32,
-    line: u32,
-    out: &mut [u8],
-    trace: &mut [u8],
-) -> Result<usize, ScriptFault>
-    requires room { 40000 ≤ length out.old }
-    requires long { length trace.old ≡ 16384 }
-    ensures { Obeys F.Family F.Named.own C.Calendar line (Advance ticks) run.old out.old trace.old run.new out.new trace.new result }
-{
-    let (done, bytes) = at_line(run.advance(ticks, trace), line)?;
-    Ok(say_trace::<F>(out, front(trace, bytes), done))
-}
-
-fn read<F: Named, C: Calendar>(
-    run: &Run<F, C>,
-    net: u32,
-    line: u32,
-    out: &mut [u8],
-) -> Result<usize, ScriptFault>
-    requires { 40000 ≤ length out.old }
-    ensures { (trace : List ℕ) → Obeys F.Family F.Named.own C.Calendar line (Read net) run.now out.old trace run.now out.new trace result }
-{
-    let (code, definite) = at_line(run.read(narrow(net)), line)?;
-    Ok(say_level::<F>(out, code, definite))
 }
 
 // The run counts in 16 bits; a larger number is refused like 65,535, which no board reaches.
 fn narrow(n: u32) -> u16
     ensures { result ≡ min n 65535 }
 {
-    if n > 65_535 { 65_535 } else { n as u16 }
+    u16::try_from(n).unwrap_or(u16::MAX)
 }
 
 fn at_line<T>(r: Result<T, RunFault>, line: u32) -> Result<T, AtLine>
     ensures { result ≡ at_line line r }
 {
-    match r {
-        Ok(v) => Ok(v),
-        Err(fault) => Err(AtLine { line, fault }),
-    }
-}
-
-// The first n bytes, or all where there are fewer.
-fn front(bytes: &[u8], n: usize) -> &[u8]
-    ensures { result.now ≡ take n bytes.now }
-{
-    if n > bytes.len() {
-        return bytes;
-    }
-    &bytes[..n]
+    r.map_err(|fault| AtLine { line, fault })
 }

@@ -3,9 +3,6 @@
 
 #![tactic(auto)]
 
-ghost use Rattle.std.specs.Prelude.{◌≤◌};
-ghost use denote.Memory.{mem};
-
 use board_file::file::board_bytes;
 use calendar::calendar::Calendar;
 use calendar::entry::Entry;
@@ -20,7 +17,7 @@ use script::line::answer_line;
 use script_stream::stream::work_script;
 use std::alloc::Global;
 use std::io;
-use std::io::{BufWriter, Read, Stdin, Stdout, Write};
+use std::io::{BufWriter, Read, Stdout};
 
 const BLANK: Entry = Entry {
     tick: 0,
@@ -35,37 +32,20 @@ const UNFIT: &[u8] = b"wake 0 0\ndrive 0 1\nadvance 1\nadvance 0\nread 0\nread 9
 fn main(rt: HostRuntime) -> io::Result<()> {
     let heap = rt.alloc();
     let mut entries = vec![in heap; BLANK; 4_096]?;
-    let latch = board(&rt, heap, "board.nlb")?;
-    let mut input = rt.stdin();
-    let mut sink = BufWriter::new(heap, rt.stdout())?;
-    serve::<NineValues, Heap, Stdin, BufWriter<Stdout>>(
-        latch,
-        Heap::new(entries.as_mut_slice()),
-        &mut input,
-        &mut sink,
-        heap,
-    )?;
-    let ring = board(&rt, heap, "ring.nlb")?;
-    let mut full = RING;
-    serve::<NineValues, Heap, &[u8], BufWriter<Stdout>>(
-        ring,
-        Heap::new(entries.as_mut_slice()),
-        &mut full,
-        &mut sink,
-        heap,
-    )?;
-    let again = board(&rt, heap, "board.nlb")?;
     let mut few = [BLANK; 1];
+    let mut input = rt.stdin();
+    let mut full = RING;
     let mut unfit = UNFIT;
-    serve::<NineValues, Heap, &[u8], BufWriter<Stdout>>(
-        again,
-        Heap::new(&mut few),
-        &mut unfit,
-        &mut sink,
-        heap,
-    )?;
+    let mut sink = BufWriter::new(heap, rt.stdout())?;
+    let latch = board(&rt, heap, "board.nlb")?;
+    serve(latch, entries.as_mut_slice(), &mut input, &mut sink, heap)?;
+    let ring = board(&rt, heap, "ring.nlb")?;
+    serve(ring, entries.as_mut_slice(), &mut full, &mut sink, heap)?;
+    let again = board(&rt, heap, "board.nlb")?;
+    serve(again, &mut few, &mut unfit, &mut sink, heap)?;
     let last = board(&rt, heap, "board.nlb")?;
-    open_small::<NineValues, Heap>(&rt, last, Heap::new(entries.as_mut_slice()))
+    let mut run: Run<NineValues, Heap> = Run::open(last, Heap::new(entries.as_mut_slice()));
+    small_buffers(&rt, &mut run)
 }
 
 fn board(rt: &HostRuntime, heap: Global, name: &str) -> io::Result<Netlist> {
@@ -75,17 +55,16 @@ fn board(rt: &HostRuntime, heap: Global, name: &str) -> io::Result<Netlist> {
     Ok(place)
 }
 
-// Opens a run for the buffers.
-fn open_small<F: Named + Drop, C: Calendar + Drop>(
-    rt: &HostRuntime,
+// Works a script on a new run of a board.
+fn serve<R: Read>(
     board: Netlist,
-    calendar: C,
-) -> io::Result<()>
-    requires calendar { (mem C.row).size ≤ 1048576 }
-    requires value { (mem F.Value.row).size ≤ 64 }
-{
-    let mut run: Run<F, C> = Run::open(board, calendar);
-    small_buffers(rt, &mut run)
+    entries: &mut [Entry],
+    script: &mut R,
+    sink: &mut BufWriter<Stdout>,
+    heap: Global,
+) -> io::Result<()> {
+    let mut run: Run<NineValues, Heap> = Run::open(board, Heap::new(entries));
+    work_script(&mut run, script, sink, heap)
 }
 
 // The fault of each pair of buffers, at line 7; the line is good, so that nothing else is wrong.

@@ -12,7 +12,6 @@ use std::io::{Read, Write};
 struct Desk {
     held: Held,
     number: u32,
-    begun: bool,
     out: Vec<u8>,
     trace: Vec<u8>,
 }
@@ -27,62 +26,61 @@ pub fn work_script<F: Named, C: Calendar, R: Read, W: Write>(
     let mut desk = Desk {
         held: Held::new(),
         number: 0,
-        begun: false,
         out: vec![in heap; 0; 40_000]?,
         trace: vec![in heap; 0; 16_384]?,
     };
     let mut chunk = vec![in heap; 0; 65_536]?;
+    // Kept as it is: a loop must be seen to end, and no contract says that a reader comes to its end.
     for _ in 0..u64::MAX {
         let n = input.read(chunk.as_mut_slice())?;
         if n == 0 {
             break;
         }
-        work_bytes(run, &chunk.as_slice()[..n], &mut desk, sink)?;
+        desk.work_bytes(run, &chunk.as_slice()[..n], sink)?;
         sink.flush()?;
     }
-    if desk.begun {
-        work_line(run, &mut desk, sink)?;
+    if !desk.held.text().is_empty() {
+        desk.work_line(run, sink)?;
     }
     sink.flush()
 }
 
-// Works the lines that end in these bytes, and keeps the start of the next.
-fn work_bytes<F: Named, C: Calendar, W: Write>(
-    run: &mut Run<F, C>,
-    bytes: &[u8],
-    desk: &mut Desk,
-    sink: &mut W,
-) -> io::Result<()> {
-    for b in bytes {
-        if *b == 0x0a {
-            work_line(run, desk, sink)?;
-        } else {
-            desk.held.push(*b);
-            desk.begun = true;
+impl Desk {
+    // Works the lines that end in these bytes, and keeps the start of the next.
+    fn work_bytes<F: Named, C: Calendar, W: Write>(
+        &mut self,
+        run: &mut Run<F, C>,
+        bytes: &[u8],
+        sink: &mut W,
+    ) -> io::Result<()> {
+        for b in bytes {
+            if *b == b'\n' {
+                self.work_line(run, sink)?;
+            } else {
+                self.held.push(*b);
+            }
         }
+        Ok(())
     }
-    Ok(())
-}
 
-fn work_line<F: Named, C: Calendar, W: Write>(
-    run: &mut Run<F, C>,
-    desk: &mut Desk,
-    sink: &mut W,
-) -> io::Result<()> {
-    desk.number = desk.number.saturating_add(1);
-    let (end, _) = answer_line(
-        run,
-        desk.held.text(),
-        desk.number,
-        desk.out.as_mut_slice(),
-        desk.trace.as_mut_slice(),
-    );
-    desk.held.clear();
-    desk.begun = false;
-    let answer = desk.out.as_slice();
-    // it always fits, but the contract says so only of a run whose life is known
-    if end <= answer.len() {
-        return sink.write_all(&answer[..end]);
+    fn work_line<F: Named, C: Calendar, W: Write>(
+        &mut self,
+        run: &mut Run<F, C>,
+        sink: &mut W,
+    ) -> io::Result<()> {
+        self.number = self.number.saturating_add(1);
+        let (end, _) = answer_line(
+            run,
+            self.held.text(),
+            self.number,
+            self.out.as_mut_slice(),
+            self.trace.as_mut_slice(),
+        );
+        self.held.clear();
+        // it always fits, but the contract says so only of a run whose life is known
+        if let Some(answer) = self.out.as_slice().get(..end) {
+            sink.write_all(answer)?;
+        }
+        Ok(())
     }
-    Ok(())
 }

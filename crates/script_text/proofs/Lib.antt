@@ -1,3 +1,4 @@
 pub mod Numbers
 pub mod Over
 pub mod Reading
+pub mod Records

@@ -1,5 +1,5 @@
 // What a line of a script asks for.
-#[derive(Clone, Copy)]
+#[derive(Clone, Copy, Debug, PartialEq, Eq)]
 pub enum Command {
     // A gate and the code of its start level.
     Wake(u32, u16),
@@ -12,7 +12,7 @@ pub enum Command {
 }
 
 // The first word of a line.
-#[derive(Clone, Copy)]
+#[derive(Clone, Copy, Debug, PartialEq, Eq)]
 pub enum Verb {
     Wake,
     Drive,

@@ -22,13 +22,13 @@ fn read_number(digits: &[u8]) -> Option<u32>
 }
 
 // The character at a place of a line, or 0 past its end.
+// Kept as it is: no command word has a letter 0, and cases of Some('w') and so on would be no plainer.
 fn letter(line: &[u8], i: usize) -> char
     ensures { result ≡ slice_index line.now i }
 {
-    if i < line.len() {
-        line[i] as char
-    } else {
-        '\0'
+    match line.get(i) {
+        Some(b) => *b as char,
+        None => '\0',
     }
 }
 
@@ -61,25 +61,16 @@ fn read_verb(line: &[u8]) -> Option<Verb>
 fn read_from(line: &[u8], at: usize) -> Option<u32>
     ensures { result ≡ number (drop at line.now) }
 {
-    if at > line.len() {
-        return None;
-    }
-    read_number(&line[at..])
+    read_number(line.get(at..)?)
 }
 
 // The number that stands from a place on, before a space and a name of `width` bytes.
 fn read_before(line: &[u8], at: usize, width: usize) -> Option<u32>
-    requires near { at ≤ 8 }
-    requires short { width ≤ 4 }
     ensures { result ≡ number_before line.now at width }
 {
-    let n = line.len();
-    if n < at + 2 + width {
-        return None;
-    }
-    let end = n - width - 1;
+    let end = line.len().checked_sub(width)?.checked_sub(1)?;
     match line[end] as char {
-        ' ' => read_number(&line[at..end]),
+        ' ' => read_number(line.get(at..end)?),
         _ => None,
     }
 }
@@ -88,21 +79,14 @@ fn read_before(line: &[u8], at: usize, width: usize) -> Option<u32>
 fn code_of<F: Named>(name: &[u8]) -> Option<u16>
     ensures { result ≡ code_of F.Family.logic F.Named.naming name.now }
 {
-    match F::of_name(name) {
-        None => None,
-        Some(v) => Some(F::code(v)),
-    }
+    F::of_name(name).map(|v| F::code(v))
 }
 
 // The code of the value that the last `width` bytes of a line name.
 fn read_name<F: Named>(line: &[u8], width: usize) -> Option<u16>
     ensures { result ≡ code_of F.Family.logic F.Named.naming (drop (length line.now - width) line.now) }
 {
-    let n = line.len();
-    if width > n {
-        return code_of::<F>(line);
-    }
-    code_of::<F>(&line[n - width..n])
+    code_of::<F>(&line[line.len().saturating_sub(width)..])
 }
 
 fn read_command<F: Named>(line: &[u8]) -> Option<Command>

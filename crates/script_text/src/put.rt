@@ -4,54 +4,76 @@ ghost use Rattle.script_text.specs.Laid.{Lays};
 
 use logic::named::Named;
 
-// Each writes into the buffer from a place on, as far as there is room, and answers the place behind what it wrote.
-
-pub(crate) fn put(out: &mut [u8], at: usize, b: u8) -> usize
-    ensures { Lays out.old at (b ∷ []) result out.new }
-{
-    if at >= out.len() {
-        return at;
-    }
-    out[at] = b;
-    at + 1
+// A buffer that is written from its start on, as far as there is room, and the place behind what was written.
+#[derive(Drop)]
+pub(crate) struct Writer<'a> {
+    out: &'a mut [u8],
+    end: usize,
 }
 
-pub(crate) fn put_text(out: &mut [u8], at: usize, text: &[u8]) -> usize
-    ensures { Lays out.old at text.now result out.new }
-{
-    let mut end = at;
-    for b in text {
-        end = put(out, end, *b);
+// Each method lays a text behind what was laid so far.
+impl<'a> Writer<'a> {
+    pub(crate) fn new(out: &'a mut [u8]) -> Writer<'a>
+        ensures same_reference { result.out.ghost_name ≡ out.entry.ghost_name }
+        ensures unwritten { result.out.now ≡ out.old }
+        ensures start { result.end ≡ 0 }
+    {
+        Writer { out, end: 0 }
     }
-    end
-}
 
-pub(crate) fn put_number(out: &mut [u8], at: usize, n: u32) -> usize
-    ensures { Lays out.old at (decimal n) result out.new }
-{
-    if n < 10 {
-        return put(out, at, 48 + n as u8);
+    // The bytes written.
+    pub(crate) fn end(&self) -> usize
+        ensures { result ≡ self.now.end }
+    {
+        self.end
     }
-    let end = put_number(out, at, n / 10);
-    put(out, end, 48 + (n % 10) as u8)
-}
 
-// The name of the value of a code; nothing where no value has it.
-pub(crate) fn put_name<F: Named>(out: &mut [u8], at: usize, code: u16) -> usize
-    ensures { Lays out.old at (name_of F.Family.logic F.Named.naming code) result out.new }
-{
-    match F::of_code(code) {
-        None => at,
-        Some(v) => put_value::<F>(out, at, v),
+    pub(crate) fn put(&mut self, b: u8)
+        ensures same_reference { self.new.out.ghost_name ≡ self.old.out.ghost_name }
+        ensures lays { Lays self.old.out.now self.old.end (b ∷ []) self.new.end self.new.out.now }
+    {
+        if self.end < self.out.len() {
+            self.out[self.end] = b;
+            self.end += 1;
+        }
     }
-}
 
-fn put_value<F: Named>(out: &mut [u8], at: usize, v: F::Value) -> usize
-    ensures { Lays out.old at (F.Named.naming.name v) result out.new }
-{
-    let mut end = at;
-    for i in 0..F::name_width() {
-        end = put(out, end, F::name_byte(v, i));
+    pub(crate) fn put_text(&mut self, text: &[u8])
+        ensures same_reference { self.new.out.ghost_name ≡ self.old.out.ghost_name }
+        ensures lays { Lays self.old.out.now self.old.end text.now self.new.end self.new.out.now }
+    {
+        for b in text {
+            self.put(*b);
+        }
     }
-    end
+
+    pub(crate) fn put_number(&mut self, n: u32)
+        ensures same_reference { self.new.out.ghost_name ≡ self.old.out.ghost_name }
+        ensures lays { Lays self.old.out.now self.old.end (decimal n) self.new.end self.new.out.now }
+    {
+        if n >= 10 {
+            self.put_number(n / 10);
+        }
+        self.put(b'0' + (n % 10) as u8);
+    }
+
+    // The name of the value of a code; nothing where no value has it.
+    pub(crate) fn put_name<F: Named>(&mut self, code: u16)
+        ensures same_reference { self.new.out.ghost_name ≡ self.old.out.ghost_name }
+        ensures lays { Lays self.old.out.now self.old.end (name_of F.Family.logic F.Named.naming code) self.new.end self.new.out.now }
+    {
+        if let Some(v) = F::of_code(code) {
+            self.put_value::<F>(v);
+        }
+    }
+
+    fn put_value<F: Named>(&mut self, v: F::Value)
+        ensures same_reference { self.new.out.ghost_name ≡ self.old.out.ghost_name }
+        ensures lays { Lays self.old.out.now self.old.end (F.Named.naming.name v) self.new.end self.new.out.now }
+    {
+        // Kept as it is: a family gives the bytes of a name by their numbers, so there is no slice to go over.
+        for i in 0..F::name_width() {
+            self.put(F::name_byte(v, i));
+        }
+    }
 }

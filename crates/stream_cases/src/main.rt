@@ -3,23 +3,19 @@
 
 #![tactic(auto)]
 
-ghost use Rattle.std.specs.Prelude.{◌≤◌};
-ghost use denote.Memory.{mem};
-
 use board_file::file::board_bytes;
-use calendar::calendar::Calendar;
 use calendar::entry::Entry;
 use heap::heap::Heap;
-use logic::named::Named;
 use netlist::look_over::look_over;
 use netlist::place::Netlist;
 use nine_values::nine::NineValues;
 use run::state::Run;
 use run::state::compare::contradiction;
 use script_stream::stream::work_script;
+use script_stream::verdict::Verdict;
 use std::alloc::Global;
 use std::io;
-use std::io::{BufWriter, Read, Stdin, Stdout, Write};
+use std::io::{BufWriter, Read, Stdout, Write};
 use wheel::wheel::Wheel;
 
 const BLANK: Entry = Entry {
@@ -38,26 +34,11 @@ const SET: &[u8] = b"drive 0 1\ndrive 1 0\nadvance 4";
 
 fn main(rt: HostRuntime) -> io::Result<()> {
     let heap = rt.alloc();
-    let mut entries = vec![in heap; BLANK; 4_096]?;
     let mut sink = BufWriter::new(heap, rt.stdout())?;
     let mut none = EMPTY;
     let mut input = rt.stdin();
-    let first = board(&rt, heap, "board.nlb")?;
-    serve::<NineValues, Heap, &[u8], BufWriter<Stdout>>(
-        first,
-        Heap::new(entries.as_mut_slice()),
-        &mut none,
-        &mut sink,
-        heap,
-    )?;
-    let second = board(&rt, heap, "board.nlb")?;
-    serve::<NineValues, Heap, Stdin, BufWriter<Stdout>>(
-        second,
-        Heap::new(entries.as_mut_slice()),
-        &mut input,
-        &mut sink,
-        heap,
-    )?;
+    alone(&rt, heap, &mut none, &mut sink)?;
+    alone(&rt, heap, &mut input, &mut sink)?;
     pair(&rt, heap, AWAKE, &mut sink)?;
     pair(&rt, heap, SET, &mut sink)
 }
@@ -69,6 +50,20 @@ fn board(rt: &HostRuntime, heap: Global, name: &str) -> io::Result<Netlist> {
     Ok(place)
 }
 
+// Works a script on a new run.
+fn alone<R: Read>(
+    rt: &HostRuntime,
+    heap: Global,
+    script: &mut R,
+    sink: &mut BufWriter<Stdout>,
+) -> io::Result<()> {
+    let mut entries = vec![in heap; BLANK; 4_096]?;
+    let place = board(rt, heap, "board.nlb")?;
+    let mut run: Run<NineValues, Heap> = Run::open(place, Heap::new(entries.as_mut_slice()));
+    work_script(&mut run, script, sink, heap)
+}
+
+// Works a script on each of two runs of the latch, and says whether the second contradicts a definite level of the first.
 fn pair(
     rt: &HostRuntime,
     heap: Global,
@@ -77,62 +72,14 @@ fn pair(
 ) -> io::Result<()> {
     let mut entries = vec![in heap; BLANK; 4_096]?;
     let mut codes = vec![in heap; 0; 66_560]?;
-    let mut script = RESET;
-    let mut other_script = other;
     let latch = board(rt, heap, "latch.nlb")?;
     let again = board(rt, heap, "latch.nlb")?;
-    compare::<NineValues, Heap, Wheel, &[u8], &[u8], BufWriter<Stdout>>(
-        (latch, again),
-        Heap::new(entries.as_mut_slice()),
-        Wheel::new(codes.as_mut_slice()),
-        &mut script,
-        &mut other_script,
-        sink,
-        heap,
-    )
-}
-
-// Works a script on a new run of a board. The run is held by value, so that its parts must be of a size that memory has.
-fn serve<F: Named + Drop, C: Calendar + Drop, R: Read, W: Write>(
-    board: Netlist,
-    calendar: C,
-    input: &mut R,
-    sink: &mut W,
-    heap: Global,
-) -> io::Result<()>
-    requires calendar { (mem C.row).size ≤ 1048576 }
-    requires value { (mem F.Value.row).size ≤ 64 }
-{
-    let mut run: Run<F, C> = Run::open(board, calendar);
-    work_script(&mut run, input, sink, heap)
-}
-
-// Works a script on each of two runs, and says whether the second contradicts a definite level of the first.
-fn compare<F: Named + Drop, C: Calendar + Drop, D: Calendar + Drop, R: Read, S: Read, W: Write>(
-    boards: (Netlist, Netlist),
-    calendar: C,
-    other_calendar: D,
-    input: &mut R,
-    other_input: &mut S,
-    sink: &mut W,
-    heap: Global,
-) -> io::Result<()>
-    requires calendar { (mem C.row).size ≤ 1048576 }
-    requires other { (mem D.row).size ≤ 1048576 }
-    requires value { (mem F.Value.row).size ≤ 64 }
-{
-    let (board, other_board) = boards;
-    let mut first: Run<F, C> = Run::open(board, calendar);
-    let mut second: Run<F, D> = Run::open(other_board, other_calendar);
-    work_script(&mut first, input, sink, heap)?;
-    work_script(&mut second, other_input, sink, heap)?;
-    say_verdict(contradiction(&first, &second), sink)?;
+    let mut first: Run<NineValues, Heap> = Run::open(latch, Heap::new(entries.as_mut_slice()));
+    let mut second: Run<NineValues, Wheel> = Run::open(again, Wheel::new(codes.as_mut_slice()));
+    let mut script = RESET;
+    let mut other_script = other;
+    work_script(&mut first, &mut script, sink, heap)?;
+    work_script(&mut second, &mut other_script, sink, heap)?;
+    writeln!(sink, "{}", Verdict(contradiction(&first, &second)))?;
     sink.flush()
-}
-
-fn say_verdict<W: Write>(net: Option<u16>, sink: &mut W) -> io::Result<()> {
-    match net {
-        None => sink.write_all(b"agrees\n"),
-        Some(n) => writeln!(sink, "contradicts {n}"),
-    }
 }

@@ -18,9 +18,9 @@ short_text l n k p a b d =
 
 pub returns : goal.returns
 returns c =
-    let e : fault_text c.line-l.result c.number-n.result c.letter-k.result c.place-p.result ≡ note_text (noted c.args.fault) =
-    λ i. fault_text (c.line-l.ensures i) (c.number-n.ensures i) (c.letter-k.ensures i) (c.place-p.ensures i) in
+    let e : fault_text c.line.result c.number.result c.letter.result c.place.result ≡ note_text (noted c.args.fault) =
+    λ i. fault_text (c.line.ensures i) (c.number.ensures i) (c.letter.ensures i) (c.place.ensures i) in
     record {
       lays = subst (λ t. Lays c.args.out.now 0 t c.say_fault.result c.say_fault.new.out) e c.say_fault.ensures;
-      short = subst (λ t. length t ≤ 100) e (short_text c.line-l.result c.number-n.result c.letter-k.result c.place-p.result (omega arith) (omega arith) (omega arith));
+      short = subst (λ t. length t ≤ 100) e (short_text c.line.result c.number.result c.letter.result c.place.result (omega arith) (omega arith) (omega arith));
     }
