@@ -42,9 +42,12 @@ number BadTurn = 15
 abbrev pub letter : Reason → ℕ
 letter r = 99
 
--- its place is now
+-- its place is now, here the tick t
+abbrev pub fault_at : ℕ → Reason → CalendarFault
+fault_at t r = record { reason = r; place = t }
+
 abbrev pub fault : Agenda → Reason → CalendarFault
-fault a r = record { reason = r; place = a.today }
+fault a r = fault_at a.today r
 
 -- what refuses a put, the first of four
 abbrev pub put_refused : Agenda → Entry → Option Reason

@@ -14,10 +14,10 @@ pub fn take_due<C: Calendar>(calendar: &mut C, tick: u32, levels: &mut [u16; 102
     ensures seen { before_tick (C.meaning calendar.old).waiting tick ≡ false → (g : ℕ) → g < length levels.old → slice_index levels.new g ≡ or_else (code_at tick g (C.meaning calendar.old).waiting) (slice_index levels.old g) }
     ensures lawful { Laws (C.meaning calendar.old) }
 {
-    while is_due(calendar, tick) {
-        if let Some(e) = calendar.take() {
-            levels[e.gate as usize] = e.code;
-        }
+    while is_due(calendar, tick)
+        && let Some(e) = calendar.take()
+    {
+        levels[e.gate as usize] = e.code;
     }
 }
 
@@ -25,8 +25,5 @@ pub fn take_due<C: Calendar>(calendar: &mut C, tick: u32, levels: &mut [u16; 102
 pub fn is_due<C: Calendar>(calendar: &C, tick: u32) -> bool
     ensures { result ≡ first_due_by tick (C.meaning calendar.now).waiting }
 {
-    match calendar.next() {
-        Some(t) => t <= tick,
-        None => false,
-    }
+    calendar.next().is_some_and(|t| t <= tick)
 }

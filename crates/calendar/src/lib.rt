@@ -1,6 +1,7 @@
 #![tactic(auto)]
 
 pub mod calendar;
+pub mod checks;
 pub mod client;
 pub mod entry;
 pub mod fault;

@@ -13,8 +13,8 @@ bounds-levels-e g c =
     let gate = (due_parts a.today a.gates e (first_due a e (g.C.Calendar.lawful c.loop-calendar.calendar) c.in-Some.ensures.answer)).2 in
     omega arith
 
-pub returns : goal.returns
-returns g c =
+pub returns-after-loop-calendar : goal.returns-after-loop-calendar
+returns-after-loop-calendar g c =
     let a = g.C.Calendar.meaning c.loop-calendar.calendar in
     let old = g.C.Calendar.meaning c.args.calendar.now in
     let ok = g.C.Calendar.lawful c.args.calendar.now in
