@@ -19,14 +19,8 @@ use run::state::Run;
 use std::io;
 use wheel::wheel::Wheel;
 
-const BLANK: Entry = Entry {
-    tick: 0,
-    gate: 0,
-    code: 0,
-};
-
 fn buses(rt: &HostRuntime) -> io::Result<()> {
-    let mut entries = [BLANK; 70];
+    let mut entries = [Entry::BLANK; 70];
     let mut slots = [0; 260];
     let mut run: Run<NineValues, Heap> = Run::open(board(BUS), Heap::new(&mut entries));
     serve(rt, "heap 70", &mut run, PULSE)?;
@@ -43,9 +37,9 @@ fn buses(rt: &HostRuntime) -> io::Result<()> {
 }
 
 fn refusals(rt: &HostRuntime) -> io::Result<()> {
-    let mut entries = [BLANK; 2];
+    let mut entries = [Entry::BLANK; 2];
     let mut slots = [0; 65];
-    let mut too_few = [BLANK; 1];
+    let mut too_few = [Entry::BLANK; 1];
     let mut too_short = [0; 64];
     let mut run: Run<NineValues, Heap> = Run::open(board(INVERTER), Heap::new(&mut entries));
     serve(rt, "heap 2", &mut run, REFUSALS)?;
@@ -63,7 +57,7 @@ fn refusals(rt: &HostRuntime) -> io::Result<()> {
 
 // An advance of the inverter by 4 ticks, with a buffer of every length.
 fn stops(rt: &HostRuntime) -> io::Result<()> {
-    let mut entries = [BLANK; 2];
+    let mut entries = [Entry::BLANK; 2];
     for length in 0..42 {
         let steps = [Step::Drive(0, Level::High), Step::Advance(4, length)];
         let mut run: Run<NineValues, Heap> = Run::open(board(INVERTER), Heap::new(&mut entries));
@@ -74,7 +68,7 @@ fn stops(rt: &HostRuntime) -> io::Result<()> {
 }
 
 fn ends(rt: &HostRuntime) -> io::Result<()> {
-    let mut entries = [BLANK; 1];
+    let mut entries = [Entry::BLANK; 1];
     let mut slots = [0; 65];
     let mut run: Run<NineValues, Heap> = Run::open(board(STILL), Heap::new(&mut entries));
     serve(rt, "heap 1", &mut run, LAST)?;
@@ -85,7 +79,7 @@ fn ends(rt: &HostRuntime) -> io::Result<()> {
 }
 
 fn sides(rt: &HostRuntime) -> io::Result<()> {
-    let mut entries = [BLANK; 2];
+    let mut entries = [Entry::BLANK; 2];
     let mut slots = [0; 65];
     let mut first: Run<NineValues, Heap> = Run::open(board(INVERTER), Heap::new(&mut entries));
     let mut second: Run<NineValues, Wheel> = Run::open(board(INVERTER), Wheel::new(&mut slots));

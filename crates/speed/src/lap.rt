@@ -14,12 +14,6 @@ use std::alloc::{AllocError, Global};
 use std::time::Instant;
 use wheel::wheel::Wheel;
 
-const BLANK: Entry = Entry {
-    tick: 0,
-    gate: 0,
-    code: 0,
-};
-
 const ENTRIES: usize = 65_536;
 
 const SLOTS: usize = 66_560;
@@ -110,7 +104,7 @@ fn run_choice(rt: &HostRuntime, choice: Choice, file: &[u8], ticks: u32) -> anyh
     }
     let starts = starts(rt.alloc(), &net)?;
     let high = starts.as_slice();
-    let mut entries = vec![in rt.alloc(); BLANK; ENTRIES]?;
+    let mut entries = vec![in rt.alloc(); Entry::BLANK; ENTRIES]?;
     let mut slots = vec![in rt.alloc(); 0; SLOTS]?;
     let heap = Heap::new(entries.as_mut_slice());
     let wheel = Wheel::new(slots.as_mut_slice());
