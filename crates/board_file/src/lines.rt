@@ -9,9 +9,7 @@ use std::alloc::{AllocError, Global};
 pub fn refusal_line(heap: Global, fault: NetlistFault) -> Result<String, AllocError>
     ensures { IfOk result (λ s. string_bytes s ≡ refusal_text fault) }
 {
-    let number = fault.number();
-    let place = fault.place();
-    format!(in heap; "no 0 {number} n {place}")
+    format!(in heap; "no 0 {fault}")
 }
 
 // The line that says what a board holds.

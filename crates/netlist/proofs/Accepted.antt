@@ -1,5 +1,5 @@
 -- What no fault says of a netlist's parts. Assumes nothing.
-use Rattle.std.proofs.Common.{◌≡◌, ℕ, ◌+◌, ◌-◌, ◌<◌, ◌≤◌, true, ◌||◌, ltb, List, length, get_or, take, None, Ok, ◌∙◌, arith}
+use Rattle.std.proofs.Common.{◌≡◌, ℕ, ◌+◌, ◌-◌, ◌*◌, ◌<◌, ◌≤◌, true, ◌||◌, ltb, List, length, get_or, take, None, Ok, ◌∙◌, subst, arith}
 use Rattle.std.proofs.lemmas.List.FromFn.{length-map-range_with_len}
 use Rattle.std.proofs.lemmas.List.{take_at}
 use Rattle.std.proofs.lemmas.Bool.Decides.{nat_tests}
@@ -23,14 +23,13 @@ pub record Counts (f : List ℕ) : Type 0 where
   pub gates : word f 9 ≤ 1024
   pub watched : 1 ≤ word f 11
   pub watches : word f 11 ≤ word f 5
+  pub long : 13 + 9 * word f 9 + 2 * word f 11 ≡ length f
 
 pub counts : (f : List ℕ) → head_fault f ≡ None → Counts f
-counts f h = record { some = grind (arith, nat_tests); nets = grind (arith, nat_tests); ports = grind (arith, nat_tests); gates = grind (arith, nat_tests); watched = grind (arith, nat_tests); watches = grind (arith, nat_tests) }
+counts f h = record { some = grind (arith, nat_tests); nets = grind (arith, nat_tests); ports = grind (arith, nat_tests); gates = grind (arith, nat_tests); watched = grind (arith, nat_tests); watches = grind (arith, nat_tests); long = grind (arith, nat_tests) }
 
-pub good : (n at : ℕ) (g : Gate) → gate_fault n at g ≡ None → Good n g
-good n at g h = record {
-  kind_low = grind (arith, nat_tests);
-  kind_high = grind (arith, nat_tests);
+pub good : (n at byte : ℕ) (g : Gate) → gate_fault n at byte g ≡ None → Good n g
+good n at byte g h = record {
   a_below = grind (arith, nat_tests);
   b_below = grind (arith, nat_tests);
   out_below = grind (arith, nat_tests);
@@ -44,7 +43,7 @@ pub in_table : (f : List ℕ) → take (word f 9) (table blank (gates_of f)) ≡
 in_table f = take_at (gates_of f) _ (word f 9) (length-map-range_with_len (gate_no f) 0 (word f 9))
 
 pub gate_good : (f : List ℕ) → gates_fault f ≡ None → (g : ℕ) → g < word f 9 → Good (word f 5) (get_or (table blank (gates_of f)) g blank)
-gate_good f h g lt = rw (table_at blank (gate_no f) (word f 9) g lt) (good (word f 5) (gate_offset g) (gate_no f g) (first_none (gate_no_fault f) (word f 9) g h lt))
+gate_good f h g lt = rw (table_at blank (gate_no f) (word f 9) g lt) (good (word f 5) (gate_offset g) (get_or f (gate_offset g) 0) (gate_no f g) (first_none (gate_no_fault f) (word f 9) g h lt))
 
 pub watch_below : (f : List ℕ) → watches_fault f ≡ None → (i : ℕ) → i < word f 11 → get_or (table 0 (watches_of f)) i 0 < word f 5
 watch_below f h i lt =
@@ -85,12 +84,12 @@ pub record Facts (h : Head) (gates : List Gate) (watches : List ℕ) : Type 0 wh
   pub rising : (i : ℕ) → i + 1 < h.watches → get_or watches i 0 < get_or watches (i + 1) 0
 
 module _ {f : List ℕ} {h : Head} {gates : List Gate} {watches : List ℕ} where
-  pub read : Ok h ≡ answer (head_fault f) (head_of f) → Ok gates ≡ answer (gates_fault f) (table blank (gates_of f)) → Ok watches ≡ answer (watches_fault f) (table 0 (watches_of f)) → Read f h gates watches
-  read a b c =
-      let x = answer_ok (head_fault f) (head_of f) h a in
-      let y = answer_ok (gates_fault f) (table blank (gates_of f)) gates b in
-      let z = answer_ok (watches_fault f) (table 0 (watches_of f)) watches c in
-      record { head_fine = x.0; head_is = x.1; gates_fine = y.0; gates_are = y.1; watches_fine = z.0; watches_are = z.1 }
+  -- g is the file as the readers have it
+  pub read : (g : List ℕ) → g ≡ f → head_fault f ≡ None → h ≡ head_of g → Ok gates ≡ answer (gates_fault g) (table blank (gates_of g)) → Ok watches ≡ answer (watches_fault g) (table 0 (watches_of g)) → Read f h gates watches
+  read g same none is b c =
+      let y = answer_ok (gates_fault g) (table blank (gates_of g)) gates b in
+      let z = answer_ok (watches_fault g) (table 0 (watches_of g)) watches c in
+      subst (λ f. Read f h gates watches) same (record { head_fine = rw same none; head_is = is; gates_fine = y.0; gates_are = y.1; watches_fine = z.0; watches_are = z.1 })
 
   pub facts : Read f h gates watches → Facts h gates watches
   facts r =
@@ -113,10 +112,9 @@ module _ {f : List ℕ} {h : Head} {gates : List Gate} {watches : List ℕ} wher
   pub front : Read f h gates watches → take h.gates gates ≡ gates_of f
   front r = rw (r.head_is, r.gates_are) (in_table f)
 
-  pub verdict_is : Read f h gates watches → verdict f ≡ nets_fault h.ports (take (h.gates - 0) gates) h.nets
+  pub verdict_is : Read f h gates watches → verdict f ≡ nets_fault h.ports (take h.gates gates) h.nets
   verdict_is r =
-      let z : h.gates - 0 ≡ h.gates = omega arith in
-      rw (z, front r, r.head_is, r.head_fine, r.gates_fine, r.watches_fine)
+      rw (front r, r.head_is, r.head_fine, r.gates_fine, r.watches_fine)
 
   pub holds : (n : Netlist) → n.head ≡ h → n.gates ≡ gates → n.watches ≡ watches → Read f h gates watches → Holds f n
   holds n a b c r = record { head = a ∙ r.head_is; gates = b ∙ r.gates_are; watches = c ∙ r.watches_are }

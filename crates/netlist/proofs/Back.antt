@@ -1,23 +1,21 @@
 -- The file of a well-formed netlist has no fault, and its netlist is that one. Assumes nothing.
-use Rattle.std.proofs.Common.{◌≡◌, ℕ, zero, suc, ◌+◌, ◌-◌, ◌*◌, ◌/◌, ◌%◌, ◌<◌, ◌≤◌, List, [], ◌∷◌, ◌++◌, length, get_or, drop, None, Option, sym, refl, ap, ◌∙◌, subst, ⊎_elim, append_assoc, append-nil, add_comm, mul-zero, mul-suc, arith, length-append}
+use Rattle.std.proofs.Common.{◌≡◌, ℕ, zero, suc, ◌+◌, ◌-◌, ◌*◌, ◌/◌, ◌%◌, ◌<◌, ◌≤◌, List, [], ◌∷◌, ◌++◌, length, get_or, drop, None, sym, refl, ap, ◌∙◌, subst, ⊎_elim, append_assoc, append-nil, add_comm, mul-zero, mul-suc, arith, length-append}
 use Rattle.std.specs.List.{flat_map}
 use Rattle.std.proofs.lemmas.List.FromFn.{fill_by_all}
 use Rattle.std.proofs.lemmas.List.{drop-drop, drop_at, get_or-drop}
 use Rattle.std.proofs.lemmas.Bool.{cases_lt}
 use Rattle.std.proofs.lemmas.Bool.Decides.{nat_tests}
-use Rattle.netlist.specs.Answers.{first_fault}
+use Rattle.netlist.specs.Kinds.{kind_number, kind_of}
 use Rattle.netlist.specs.Parts.{blank}
 use Rattle.netlist.specs.File.{word, gate_at, gate_no, gate_offset, gates_of, watch_at, watch_offset, watches_of}
 use Rattle.netlist.specs.Checks.{head_fault, gate_fault, gate_no_fault, gates_fault, watch_fault, watches_fault, net_fault, nets_fault, verdict}
 use Rattle.netlist.specs.Board.{Board, Good, WellFormed, pair, gate_bytes, head_bytes, encoded, board_of}
 use Rattle.netlist.specs.declared.gate.Gate.{Gate}
+use Rattle.netlist.proofs.Firsts.{first_all}
+use Rattle.netlist.proofs.Numbers.{of_number, number_range}
 
 join : (w : ℕ) → w / 256 * 256 + w % 256 ≡ w
 join w = omega arith
-
-all_none : {F : Type 0} (check : ℕ → Option F) (n : ℕ) → ((k : ℕ) → k < n → check k ≡ None) → first_fault check n ≡ None
-all_none check zero each = refl
-all_none check (suc n) each = rw (all_none check n (λ k lt. each k (omega arith)), each n (omega arith))
 
 module _ {X : Type 0} (k : ℕ) (bytes : X → List ℕ) (long : (x : X) → length (bytes x) ≡ k) where
   length_joined : (xs : List X) → length (flat_map bytes xs) ≡ k * length xs
@@ -46,10 +44,13 @@ pair_long : (w : ℕ) → length (pair w) ≡ 2
 pair_long w = refl
 
 module _ (f : List ℕ) (at : ℕ) where
+  gate_byte : (g : Gate) (rest : List ℕ) → drop at f ≡ gate_bytes g ++ rest → get_or f at 0 ≡ kind_number g.kind
+  gate_byte g rest e = subst (λ j. get_or f j 0 ≡ kind_number g.kind) (omega arith) (sym (get_or-drop at f 0 0) ∙ ap (λ l. get_or l 0 0) e)
+
   gate_from : (g : Gate) (rest : List ℕ) → drop at f ≡ gate_bytes g ++ rest → gate_at f at ≡ g
   gate_from g rest e =
       let b : (i j : ℕ) → at + i ≡ j → get_or f j 0 ≡ get_or (gate_bytes g ++ rest) i 0 = λ i j s. subst (λ j. get_or f j 0 ≡ get_or (gate_bytes g ++ rest) i 0) s (sym (get_or-drop at f i 0) ∙ ap (λ l. get_or l i 0) e) in
-      let ka = b 0 at (omega arith) in
+      let ka : kind_of (get_or f at 0) ≡ g.kind = ap kind_of (gate_byte g rest e) ∙ of_number g.kind in
       let a : word f (at + 1) ≡ g.a = rw (b 1 (at + 1) refl, b 2 (at + 1 + 1) (omega arith)) (join g.a) in
       let bb : word f (at + 3) ≡ g.b = rw (b 3 (at + 3) refl, b 4 (at + 3 + 1) (omega arith)) (join g.b) in
       let out : word f (at + 5) ≡ g.out = rw (b 5 (at + 5) refl, b 6 (at + 5 + 1) (omega arith)) (join g.out) in
@@ -62,8 +63,8 @@ module _ (f : List ℕ) (at : ℕ) where
       let l : get_or f (at + 1) 0 ≡ w % 256 = sym (get_or-drop at f 1 0) ∙ ap (λ l. get_or l 1 0) e in
       rw (h, l) (join w)
 
-no_gate_fault : (n at : ℕ) (g : Gate) → Good n g → gate_fault n at g ≡ None
-no_gate_fault n at g h = grind (arith, nat_tests)
+no_gate_fault : (n at : ℕ) (g : Gate) → Good n g → gate_fault n at (kind_number g.kind) g ≡ None
+no_gate_fault n at g h = let range = number_range g.kind in grind (arith, nat_tests)
 
 no_head_fault : (f : List ℕ) → get_or f 0 0 ≡ 0x4e → get_or f 1 0 ≡ 0x4c → get_or f 2 0 ≡ 0x42 → word f 3 ≡ 1 → 1 ≤ word f 5 → word f 5 ≤ 1024 → word f 7 ≤ word f 5 → word f 9 ≤ 1024 → 1 ≤ word f 11 → word f 11 ≤ word f 5 → length f ≡ 13 + 9 * word f 9 + 2 * word f 11 → head_fault f ≡ None
 no_head_fault f n l b v some nets ports gates watched watches long = let short : 13 ≤ length f = omega arith in grind (arith, nat_tests)
@@ -92,6 +93,12 @@ module _ (b : Board) where
       let h = length-append (head_bytes b) (flat_map gate_bytes b.gates ++ flat_map pair b.watches) in
       let t : length (head_bytes b) ≡ 13 = refl in
       omega (arith, g, w, s, h, t)
+
+  gate_starts : (g : ℕ) → g < length b.gates → get_or (encoded b) (gate_offset g) 0 ≡ kind_number (get_or b.gates g blank).kind
+  gate_starts g lt =
+      let r = at_chunk 9 gate_bytes gate_long b.gates blank (flat_map pair b.watches) g lt in
+      gate_byte (encoded b) (gate_offset g) (get_or b.gates g blank) r.0
+      (sym (drop-drop (9 * g) 13 (encoded b)) ∙ r.1)
 
   gate_is : (g : ℕ) → g < length b.gates → gate_no (encoded b) g ≡ get_or b.gates g blank
   gate_is g lt =
@@ -127,12 +134,12 @@ module _ (b : Board) where
         (rw w5 ok.some) (rw w5 ok.nets) (rw (w5, w7) ok.ports) (rw w9 ok.gates) (rw w11 ok.watched) (rw (w5, w11) ok.watches) (rw (w9, w11) long)
 
     no_gates : gates_fault (encoded b) ≡ None
-    no_gates = all_none (gate_no_fault (encoded b)) (word (encoded b) 9) (λ k lt.
+    no_gates = first_all (gate_no_fault (encoded b)) (word (encoded b) 9) (λ k lt.
         let in-range : k < length b.gates = omega (arith, w9) in
-        (λ i. gate_fault (w5 i) (gate_offset k) (gate_is k in-range i)) ∙ no_gate_fault b.nets (gate_offset k) (get_or b.gates k blank) (ok.good k in-range))
+        (λ i. gate_fault (w5 i) (gate_offset k) (gate_starts k in-range i) (gate_is k in-range i)) ∙ no_gate_fault b.nets (gate_offset k) (get_or b.gates k blank) (ok.good k in-range))
 
     no_watches : watches_fault (encoded b) ≡ None
-    no_watches = all_none (watch_fault (encoded b)) (word (encoded b) 11) (λ k lt.
+    no_watches = first_all (watch_fault (encoded b)) (word (encoded b) 11) (λ k lt.
         let in-range : k < length b.watches = omega (arith, w11) in
         no_watch_fault (encoded b) k
         (subst (λ x. x < word (encoded b) 5) (sym (watch_is k in-range)) (subst (λ x. get_or b.watches k 0 < x) (sym w5) (ok.below k in-range)))
@@ -145,7 +152,7 @@ module _ (b : Board) where
         omega (arith, here, before, rw back at up)))
 
     no_nets : nets_fault (word (encoded b) 7) (gates_of (encoded b)) (word (encoded b) 5) ≡ None
-    no_nets = rw (w5, w7, gates_are) (all_none (net_fault b.ports b.gates) b.nets (λ k lt. ⊎_elim (λ h. grind (arith, nat_tests)) (λ h. grind (arith, nat_tests)) (ok.driven k lt)))
+    no_nets = rw (w5, w7, gates_are) (first_all (net_fault b.ports b.gates) b.nets (λ k lt. ⊎_elim (λ h. grind (arith, nat_tests)) (λ h. grind (arith, nat_tests)) (ok.driven k lt)))
 
     pub accepted : verdict (encoded b) ≡ None
     accepted = rw (no_head, no_gates, no_watches, no_nets)

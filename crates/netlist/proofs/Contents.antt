@@ -22,8 +22,6 @@ module _ (n : Netlist) where
 
   good : (g : ℕ) → g < n.head.gates → Good n.head.nets (get_or n.gates g blank)
   good g lt = record {
-    kind_low = (n.kinds g lt).0;
-    kind_high = (n.kinds g lt).1;
     a_below = (n.reads g lt).0;
     b_below = (n.reads g lt).1;
     out_below = n.outs g lt;

@@ -2,9 +2,12 @@
 use Rattle.std.proofs.Common.{◌≡◌, ℕ, ◌+◌, ◌*◌, ◌<◌, List, length, get_or, Some, None, Option, refl, arith}
 use Rattle.std.proofs.lemmas.Bool.Decides.{nat_tests}
 use Rattle.netlist.specs.Answers.{◌orelse◌}
-use Rattle.netlist.specs.File.{word}
-use Rattle.netlist.specs.Checks.{head_fault, verdict}
+use Rattle.netlist.specs.File.{word, gate_offset}
+use Rattle.netlist.specs.Kinds.{kind_number, kind_of}
+use Rattle.netlist.specs.Checks.{head_fault, gate_no_fault, gates_fault, verdict}
 use Rattle.netlist.specs.Board.{encoded, board_of}
+use Rattle.netlist.proofs.Firsts.{first_none}
+use Rattle.netlist.proofs.Numbers.{number_of}
 use Rattle.netlist.proofs.Slices.{written}
 
 none_parts : {F : Type 0} (p q : Option F) → (p orelse q) ≡ None → (p ≡ None) × (q ≡ None)
@@ -25,5 +28,13 @@ module _ (f : List ℕ) (none : verdict f ≡ None) where
   head : head_fault f ≡ None
   head = (none_parts (head_fault f) _ none).0
 
+  gates : gates_fault f ≡ None
+  gates = (none_parts (gates_fault f) _ (none_parts (head_fault f) _ none).1).0
+
+  kind : (g : ℕ) → g < word f 9 → kind_number (kind_of (get_or f (gate_offset g) 0)) ≡ get_or f (gate_offset g) 0
+  kind g lt =
+      let fine = first_none (gate_no_fault f) (word f 9) g gates lt in
+      number_of (get_or f (gate_offset g) 0) (grind (arith, nat_tests)) (grind (arith, nat_tests))
+
   pub exact : ((i : ℕ) → get_or f i 0 < 256) → f ≡ encoded (board_of f)
-  exact byte = let m = marked f head in written f byte m.n m.l m.b m.version m.long
+  exact byte = let m = marked f head in written f byte m.n m.l m.b m.version m.long kind

@@ -1,6 +1,6 @@
+pub mod Numbers
 mod Firsts
 mod Tables
-mod Outputs
 mod Sofar
 mod Accepted
 pub mod Contents

@@ -1,22 +1,17 @@
 -- A table that is filled from its start. Assumes nothing.
-use Rattle.std.proofs.Common.{◌≡◌, ℕ, suc, ◌+◌, ◌-◌, ◌<◌, ◌≤◌, [], ◌∷◌, ◌++◌, map, length, get_or, set, replicate, sym, ap, ◌∙◌, append_assoc, arith, length-append}
+use Rattle.std.proofs.Common.{◌≡◌, ℕ, ◌-◌, ◌<◌, ◌≤◌, List, ◌++◌, map, length, get_or, drop, replicate, None, Ok, Option, sym, ◌∙◌, arith, length-append}
 use lib.ListN.{length-replicate}
 use Rattle.std.specs.List.{range_with_len}
-use Rattle.std.proofs.lemmas.List.FromFn.{length-map-range_with_len, map-range_with_len_more, get_or-map-range_with_len}
-use Rattle.std.proofs.lemmas.List.{set_at, get_or_append_left}
+use Rattle.std.proofs.lemmas.List.FromFn.{length-map-range_with_len, get_or-map-range_with_len}
+use Rattle.std.proofs.lemmas.List.{drop-replicate, get_or_append_left}
+use Rattle.netlist.specs.Answers.{answer}
 use Rattle.netlist.specs.Parts.{table}
 
-module _ {X : Type 0} (x : X) (f : ℕ → X) where
-  pub table_more : (i : ℕ) → i < 1024 → set (table x (map f (range_with_len 0 i))) i (f i) ≡ table x (map f (range_with_len 0 (i + 1)))
-  table_more i lt =
-      let n = length-map-range_with_len f 0 i in
-      let m = length-map-range_with_len f 0 (i + 1) in
-      let left : 1024 - length (map f (range_with_len 0 i)) ≡ suc (1024 - (i + 1)) = omega (arith, n) in
-      let right : 1024 - length (map f (range_with_len 0 (i + 1))) ≡ 1024 - (i + 1) = ap (λ k. 1024 - k) m in
-      rw (left, right) (set_at (map f (range_with_len 0 i)) x (replicate (1024 - (i + 1)) x) (f i) i n
-      ∙ sym (append_assoc (map f (range_with_len 0 i)) (f i ∷ []) (replicate (1024 - (i + 1)) x))
-      ∙ ap (λ l. l ++ replicate (1024 - (i + 1)) x) (sym (map-range_with_len_more f 0 i i (omega arith))))
+-- what a table holds whose first n entries were filled
+pub table_filled : {X F : Type 0} (x : X) (ys xs : List X) (n : ℕ) (o : Option F) → o ≡ None → ys ≡ xs → length ys ≡ n → Ok (ys ++ drop n (replicate 1024 x)) ≡ answer o (table x xs)
+table_filled x ys xs n o none same long = rw (none, sym same, long, drop-replicate n 1024 x)
 
+module _ {X : Type 0} (x : X) (f : ℕ → X) where
   pub table_at : (n k : ℕ) → k < n → get_or (table x (map f (range_with_len 0 n))) k x ≡ f k
   table_at n k lt =
       let m = length-map-range_with_len f 0 n in

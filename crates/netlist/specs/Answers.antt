@@ -1,5 +1,5 @@
 -- A check finds a fault or none. Checks are made in order, and the first fault counts.
-use Rattle.std.specs.Prelude.{ℕ, zero, suc, Bool, true, false, Some, None, Ok, Err, Option, Result}
+use Rattle.std.specs.Prelude.{ℕ, zero, suc, Bool, true, false, ◌||◌, nat_lt, Some, None, Ok, Err, Option, Result}
 
 -- the fault, where the test is true
 abbrev pub when : {F : Type 0} → Bool → F → Option F
@@ -21,3 +21,7 @@ first_fault check (suc n) = first_fault check n orelse check n
 abbrev pub answer : {T F : Type 0} → Option F → T → Result T F
 answer (Some e) x = Err e
 answer None x = Ok x
+
+-- a number outside low .. high
+abbrev pub outside : ℕ → ℕ → ℕ → Bool
+outside low high x = nat_lt x low || nat_lt high x

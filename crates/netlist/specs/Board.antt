@@ -1,6 +1,7 @@
 -- A netlist, what makes it well formed, and the file that writes it down.
 use Rattle.std.specs.Prelude.{◌≡◌, ℕ, ◌+◌, ◌/◌, ◌%◌, ◌<◌, ◌≤◌, true, ◌⊎◌, List, [], ◌∷◌, ◌++◌, length, sum_by, slice_index, slice_index_or}
 use Rattle.std.specs.List.{flat_map}
+use Rattle.netlist.specs.Kinds.{kind_number}
 use Rattle.netlist.specs.Parts.{blank, is_output}
 use Rattle.netlist.specs.File.{word, gates_of, watches_of}
 use Rattle.netlist.specs.declared.gate.Gate.{Gate}
@@ -12,15 +13,13 @@ pub record Board : Type 0 where
   pub gates : List Gate
   pub watches : List ℕ
 
--- a gate of a netlist of n nets: its kind, nets and delay are in range, and an input that its kind does not use is 0
+-- a gate of a netlist of n nets: its nets and its delay are in range, and an input that its kind does not use is 0
 pub record Good (n : ℕ) (g : Gate) : Type 0 where
-  pub kind_low : 1 ≤ g.kind
-  pub kind_high : g.kind ≤ 11
   pub a_below : g.a < n
   pub b_below : g.b < n
   pub out_below : g.out < n
-  pub one_input : g.kind < 3 → g.b ≡ 0
-  pub no_input : 9 < g.kind → (g.a ≡ 0) × (g.b ≡ 0)
+  pub one_input : kind_number g.kind < 3 → g.b ≡ 0
+  pub no_input : 9 < kind_number g.kind → (g.a ≡ 0) × (g.b ≡ 0)
   pub delay_low : 1 ≤ g.delay
   pub delay_high : g.delay ≤ 64
 
@@ -43,7 +42,7 @@ pair w = w / 256 ∷ (w % 256 ∷ [])
 
 -- a record of 9 bytes
 abbrev pub gate_bytes : Gate → List ℕ
-gate_bytes g = g.kind ∷ (pair g.a ++ (pair g.b ++ (pair g.out ++ pair g.delay)))
+gate_bytes g = kind_number g.kind ∷ (pair g.a ++ (pair g.b ++ (pair g.out ++ pair g.delay)))
 
 -- the mark, version 1 and the four counts
 abbrev pub head_bytes : Board → List ℕ

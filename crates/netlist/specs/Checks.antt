@@ -1,16 +1,13 @@
 -- The checks of a netlist file, in order.
 use Rattle.std.specs.Prelude.{ℕ, ◌+◌, ◌-◌, ◌*◌, Bool, not, ◌&&◌, ◌||◌, List, length, Option, ◌==◌, nat_le, nat_lt, slice_index}
-use Rattle.netlist.specs.Answers.{when, ◌orelse◌, first_fault}
+use Rattle.netlist.specs.Answers.{when, ◌orelse◌, first_fault, outside}
 use Rattle.netlist.specs.File.{word, gate_offset, gate_no, gates_of, watch_at, watch_offset}
+use Rattle.netlist.specs.Kinds.{reads_a, reads_b}
 use Rattle.netlist.specs.Parts.{is_output}
 use Rattle.netlist.specs.declared.gate.Gate.{Gate}
 use Rattle.netlist.specs.declared.gate.Head.{Head}
 use Rattle.netlist.specs.declared.fault.NetlistFault.{NetlistFault}
 use Rattle.netlist.specs.declared.fault.NetlistFault.TheVariants.{Short, Mark, Version, Count, Length, Kind, Net, Delay, Watch, Undriven}
-
--- a number outside low .. high
-abbrev pub outside : ℕ → ℕ → ℕ → Bool
-outside low high x = nat_lt x low || nat_lt high x
 
 abbrev pub head_of : List ℕ → Head
 head_of f = record { nets = word f 5; ports = word f 7; gates = word f 9; watches = word f 11 }
@@ -26,20 +23,20 @@ head_fault f =
     orelse when (outside 1 (word f 5) (word f 11)) (Count 11)
     orelse when (not (length f == 13 + 9 * word f 9 + 2 * word f 11)) (Length (length f))
 
--- kinds 1 and 2 use a alone, kinds 10 and 11 use neither input
+-- an input that the kind does not use is not 0
 abbrev pub unused_set : Gate → Bool
-unused_set g = ((nat_lt g.kind 3 || nat_lt 9 g.kind) && not (g.b == 0)) || (nat_lt 9 g.kind && not (g.a == 0))
+unused_set g = (not (reads_a g.kind) && not (g.a == 0)) || (not (reads_b g.kind) && not (g.b == 0))
 
--- the fault of a gate of a netlist of n nets, whose record stands at an offset
-abbrev pub gate_fault : ℕ → ℕ → Gate → Option NetlistFault
-gate_fault n at g =
-    when (outside 1 11 g.kind) (Kind at)
+-- the fault of a gate of a netlist of n nets, whose record stands at an offset and begins with a byte
+abbrev pub gate_fault : ℕ → ℕ → ℕ → Gate → Option NetlistFault
+gate_fault n at byte g =
+    when (outside 1 11 byte) (Kind at)
     orelse when (nat_le n g.a || (nat_le n g.b || (nat_le n g.out || unused_set g))) (Net at)
     orelse when (outside 1 64 g.delay) (Delay at)
 
 -- the fault of gate g
 abbrev pub gate_no_fault : List ℕ → ℕ → Option NetlistFault
-gate_no_fault f g = gate_fault (word f 5) (gate_offset g) (gate_no f g)
+gate_no_fault f g = gate_fault (word f 5) (gate_offset g) (slice_index f (gate_offset g)) (gate_no f g)
 
 -- gate by gate, in file order
 abbrev pub gates_fault : List ℕ → Option NetlistFault

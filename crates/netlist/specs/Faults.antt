@@ -1,5 +1,5 @@
 -- The number, the layer and the place of each refusal of a netlist file.
-use Rattle.std.specs.Prelude.{ℕ}
+use Rattle.std.specs.Prelude.{ℕ, List, ◌∷◌, ◌++◌, codes, decimal}
 use Rattle.netlist.specs.declared.fault.NetlistFault.{NetlistFault}
 use Rattle.netlist.specs.declared.fault.NetlistFault.TheVariants.{Short, Mark, Version, Count, Length, Kind, Net, Delay, Watch, Undriven}
 
@@ -30,3 +30,7 @@ fault_place (Net p) = p
 fault_place (Delay p) = p
 fault_place (Watch p) = p
 fault_place (Undriven p) = p
+
+-- the number, the layer's letter and the place, one space apart
+abbrev pub fault_text : NetlistFault → List ℕ
+fault_text e = decimal (fault_number e) ++ (codes " " ++ (fault_layer e ∷ (codes " " ++ decimal (fault_place e))))

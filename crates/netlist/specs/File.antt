@@ -1,6 +1,7 @@
 -- What stands where in a netlist file.
 use Rattle.std.specs.Prelude.{ℕ, ◌+◌, ◌*◌, List, map, slice_index}
 use Rattle.std.specs.List.{range_with_len}
+use Rattle.netlist.specs.Kinds.{kind_of}
 use Rattle.netlist.specs.declared.gate.Gate.{Gate}
 
 -- the 16 bits at an offset, the high byte first
@@ -9,7 +10,7 @@ word f at = slice_index f at * 256 + slice_index f (at + 1)
 
 -- the record at an offset
 abbrev pub gate_at : List ℕ → ℕ → Gate
-gate_at f at = record { kind = slice_index f at; a = word f (at + 1); b = word f (at + 3); out = word f (at + 5); delay = word f (at + 7) }
+gate_at f at = record { kind = kind_of (slice_index f at); a = word f (at + 1); b = word f (at + 3); out = word f (at + 5); delay = word f (at + 7) }
 
 -- where gate g's record stands
 abbrev pub gate_offset : ℕ → ℕ

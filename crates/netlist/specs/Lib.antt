@@ -1,4 +1,6 @@
 pub mod Answers
+pub mod Tables
+pub mod Kinds
 pub mod Faults
 pub mod Parts
 pub mod File

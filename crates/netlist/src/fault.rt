@@ -1,8 +1,10 @@
-ghost use Rattle.std.specs.Prelude.{◌≡◌};
-ghost use Rattle.netlist.specs.Faults.{fault_number, fault_layer, fault_place};
+ghost use Rattle.std.specs.Prelude.{◌≡◌, Some};
+ghost use Rattle.netlist.specs.Faults.{fault_number, fault_layer, fault_place, fault_text};
+
+use std::fmt;
 
 // Why a file is refused, with the place that the refusal names.
-#[derive(Clone, Copy)]
+#[derive(Clone, Copy, Debug, PartialEq, Eq)]
 pub enum NetlistFault {
     Short(usize),
     Mark(usize),
@@ -47,16 +49,24 @@ impl NetlistFault {
         ensures { result ≡ fault_place self }
     {
         match self {
-            NetlistFault::Short(length) => length,
-            NetlistFault::Mark(offset) => offset,
-            NetlistFault::Version(offset) => offset,
-            NetlistFault::Count(offset) => offset,
-            NetlistFault::Length(length) => length,
-            NetlistFault::Kind(offset) => offset,
-            NetlistFault::Net(offset) => offset,
-            NetlistFault::Delay(offset) => offset,
-            NetlistFault::Watch(offset) => offset,
-            NetlistFault::Undriven(net) => net,
+            NetlistFault::Short(place)
+            | NetlistFault::Mark(place)
+            | NetlistFault::Version(place)
+            | NetlistFault::Count(place)
+            | NetlistFault::Length(place)
+            | NetlistFault::Kind(place)
+            | NetlistFault::Net(place)
+            | NetlistFault::Delay(place)
+            | NetlistFault::Watch(place)
+            | NetlistFault::Undriven(place) => place,
         }
+    }
+}
+
+impl fmt::Display for NetlistFault {
+    ghost output = { λ fault. Some (fault_text fault) };
+
+    fn fmt<W: fmt::Write>(&self, f: &mut fmt::Formatter<W>) -> fmt::Result {
+        write!(f, "{} {} {}", self.number(), self.layer(), self.place())
     }
 }

@@ -6,7 +6,7 @@ ghost use Rattle.netlist.specs.Stock.{stock};
 use crate::place::Netlist;
 
 // What a board holds, in numbers.
-#[derive(Clone, Copy)]
+#[derive(Clone, Copy, Debug, PartialEq, Eq)]
 pub struct Inventory {
     pub nets: u16,
     pub ports: u16,
@@ -20,11 +20,10 @@ impl Netlist {
     pub fn total_delay(&self) -> u32
         ensures { result ≡ total_delay (contents self.now) }
     {
-        let mut sum = 0;
-        for g in 0..self.head.gates as usize {
-            sum += self.gates[g].delay as u32;
-        }
-        sum
+        self.gates[..self.head.gates as usize]
+            .iter()
+            .map(|g| u32::from(g.delay))
+            .sum()
     }
 
     // Counts what the board holds.

@@ -7,17 +7,18 @@ ghost use Rattle.netlist.specs.Looked.{After, Exactly, contents, unfilled};
 use crate::fault::NetlistFault;
 use crate::gate::{Gate, Head};
 use crate::place::Netlist;
-use crate::reader::{all_driven, read_gates, read_head, read_watches};
+use crate::reader::{File, all_driven};
 
 // Reads a file into the place, or refuses it.
 fn fill(bytes: &[u8], place: &mut Netlist) -> Result<(), NetlistFault>
     ensures answers { result ≡ answer (verdict bytes.now) tt }
     ensures fills { After bytes.now (verdict bytes.now) place.old place.new }
 {
-    let head = read_head(bytes)?;
-    let gates = read_gates(bytes, head)?;
-    let watches = read_watches(bytes, head)?;
-    all_driven(&gates[0..head.gates as usize], head.ports, head.nets)?;
+    let file = File::open(bytes)?;
+    let head = file.head;
+    let gates = file.gates()?;
+    let watches = file.watches()?;
+    all_driven(&gates[..head.gates as usize], head.ports, head.nets)?;
     *place = Netlist {
         head,
         gates,
@@ -48,13 +49,7 @@ impl Netlist {
                 gates: 0,
                 watches: 1,
             },
-            gates: [Gate {
-                kind: 0,
-                a: 0,
-                b: 0,
-                out: 0,
-                delay: 0,
-            }; 1024],
+            gates: [Gate::BLANK; 1024],
             watches: [0; 1024],
         }
     }

@@ -1,5 +1,6 @@
 // The place that holds a netlist that was looked over. Its ghost fields are all that a run relies on.
 ghost use Rattle.std.specs.Prelude.{◌≡◌, ℕ, ◌+◌, ◌<◌, ◌≤◌, true, ◌||◌, length, take, nat_lt, slice_index, slice_index_or};
+ghost use Rattle.netlist.specs.Kinds.{kind_number};
 ghost use Rattle.netlist.specs.Parts.{blank, is_output};
 
 use crate::gate::{Gate, Head};
@@ -17,12 +18,11 @@ pub struct Netlist {
     ghost list: { head.watches ≤ head.nets },
     ghost wide: { length gates ≡ 1024 },
     ghost long: { length watches ≡ 1024 },
-    ghost kinds: { (g : ℕ) → g < head.gates → (1 ≤ (slice_index_or gates g blank).kind) × ((slice_index_or gates g blank).kind ≤ 11) },
     ghost reads: { (g : ℕ) → g < head.gates → ((slice_index_or gates g blank).a < head.nets) × ((slice_index_or gates g blank).b < head.nets) },
     ghost outs: { (g : ℕ) → g < head.gates → (slice_index_or gates g blank).out < head.nets },
-    ghost unary: { (g : ℕ) → g < head.gates → (slice_index_or gates g blank).kind < 3 → (slice_index_or gates g blank).b ≡ 0 },
-    ghost pulls: { (g : ℕ) → g < head.gates → 9 < (slice_index_or gates g blank).kind → (slice_index_or gates g blank).a ≡ 0 },
-    ghost quiet: { (g : ℕ) → g < head.gates → 9 < (slice_index_or gates g blank).kind → (slice_index_or gates g blank).b ≡ 0 },
+    ghost unary: { (g : ℕ) → g < head.gates → kind_number (slice_index_or gates g blank).kind < 3 → (slice_index_or gates g blank).b ≡ 0 },
+    ghost pulls: { (g : ℕ) → g < head.gates → 9 < kind_number (slice_index_or gates g blank).kind → (slice_index_or gates g blank).a ≡ 0 },
+    ghost quiet: { (g : ℕ) → g < head.gates → 9 < kind_number (slice_index_or gates g blank).kind → (slice_index_or gates g blank).b ≡ 0 },
     ghost delays: { (g : ℕ) → g < head.gates → (1 ≤ (slice_index_or gates g blank).delay) × ((slice_index_or gates g blank).delay ≤ 64) },
     ghost driven: { (n : ℕ) → n < head.nets → (nat_lt n head.ports || is_output (take head.gates gates) n) ≡ true },
     ghost below: { (i : ℕ) → i < head.watches → slice_index watches i < head.nets },

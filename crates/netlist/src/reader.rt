@@ -1,27 +1,28 @@
-ghost use Rattle.std.specs.Prelude.{◌≡◌, ◌+◌, ◌-◌, ◌*◌, ◌<◌, ◌≤◌, length};
+ghost use Rattle.std.specs.Prelude.{◌≡◌, ◌+◌, ◌*◌, ◌<◌, ◌≤◌, length, Some, None, MatchResult, ℕ};
 ghost use Rattle.netlist.specs.Parts.{blank, table, is_output};
-ghost use Rattle.netlist.specs.File.{word, gate_at, gates_of, watch_at, watches_of};
-ghost use Rattle.netlist.specs.Checks.{head_of, head_fault, gate_fault, gates_fault, watch_fault, watches_fault, nets_fault};
+ghost use Rattle.netlist.specs.File.{word, gate_no, gates_of, watch_at, watches_of};
+ghost use Rattle.netlist.specs.Checks.{head_of, head_fault, gate_no_fault, gates_fault, watch_fault, watches_fault, nets_fault};
 ghost use Rattle.netlist.specs.Answers.{answer};
+ghost use Rattle.netlist.specs.Tables.{FilledTo, StoppedBy};
 
 use crate::fault::NetlistFault;
-use crate::gate::{Gate, Head};
+use crate::gate::{Gate, GateKind, Head};
 
 fn be16(s: &[u8], at: usize) -> u16
     requires { at + 1 < length s.now }
     ensures { result ≡ word s.now at }
 {
-    (s[at] as u16) * 256 + s[at + 1] as u16
+    u16::from_be_bytes([s[at], s[at + 1]])
 }
 
-pub(crate) fn read_head(bytes: &[u8]) -> Result<Head, NetlistFault>
+fn read_head(bytes: &[u8]) -> Result<Head, NetlistFault>
     ensures { result ≡ answer (head_fault bytes.now) (head_of bytes.now) }
 {
     let n = bytes.len();
     if n < 13 {
         return Err(NetlistFault::Short(n));
     }
-    if bytes[0] != 0x4e || bytes[1] != 0x4c || bytes[2] != 0x42 {
+    if !bytes.starts_with(b"NLB") {
         return Err(NetlistFault::Mark(0));
     }
     if be16(bytes, 3) != 1 {
@@ -54,107 +55,119 @@ pub(crate) fn read_head(bytes: &[u8]) -> Result<Head, NetlistFault>
     })
 }
 
-fn read_gate(bytes: &[u8], at: usize, nets: u16) -> Result<Gate, NetlistFault>
-    requires { at + 9 ≤ length bytes.now }
-    ensures { result ≡ answer (gate_fault nets at (gate_at bytes.now at)) (gate_at bytes.now at) }
-{
-    let kind = bytes[at];
-    let a = be16(bytes, at + 1);
-    let b = be16(bytes, at + 3);
-    let out = be16(bytes, at + 5);
-    let delay = be16(bytes, at + 7);
-    if kind == 0 || kind > 11 {
-        return Err(NetlistFault::Kind(at));
-    }
-    if a >= nets || b >= nets || out >= nets {
-        return Err(NetlistFault::Net(at));
-    }
-    if (kind < 3 || kind > 9) && b != 0 {
-        return Err(NetlistFault::Net(at));
-    }
-    if kind > 9 && a != 0 {
-        return Err(NetlistFault::Net(at));
-    }
-    if delay == 0 || delay > 64 {
-        return Err(NetlistFault::Delay(at));
-    }
-    Ok(Gate {
-        kind,
-        a,
-        b,
-        out,
-        delay,
-    })
+// A file whose head was read, and whose bytes are as many as its counts ask for.
+#[derive(Clone, Copy)]
+pub(crate) struct File<'a> {
+    bytes: &'a [u8],
+    pub(crate) head: Head,
+    ghost read: { head ≡ head_of bytes.now },
+    ghost gates: { head.gates ≤ 1024 },
+    ghost watches: { head.watches ≤ 1024 },
+    ghost whole: { 13 + 9 * head.gates + 2 * head.watches ≡ length bytes.now },
 }
 
-pub(crate) fn read_gates(bytes: &[u8], head: Head) -> Result<[Gate; 1024], NetlistFault>
-    requires head { head ≡ head_of bytes.now }
-    requires few { head.gates ≤ 1024 }
-    requires fits { 13 + 9 * head.gates ≤ length bytes.now }
-    ensures { result ≡ answer (gates_fault bytes.now) (table blank (gates_of bytes.now)) }
-{
-    let mut gates = [Gate {
-        kind: 0,
-        a: 0,
-        b: 0,
-        out: 0,
-        delay: 0,
-    }; 1024];
-    for g in 0..head.gates as usize {
-        gates[g] = read_gate(bytes, 13 + 9 * g, head.nets)?;
+impl<'a> File<'a> {
+    pub(crate) fn open(bytes: &'a [u8]) -> Result<File<'a>, NetlistFault>
+        ensures { MatchResult result (λ file. (head_fault bytes.now ≡ None) × (file.bytes.now ≡ bytes.now)) (λ e. head_fault bytes.now ≡ Some e) }
+    {
+        let head = read_head(bytes)?;
+        Ok(File { bytes, head })
     }
-    Ok(gates)
+
+    // Gate g, by its number in the file.
+    fn gate(&self, g: usize) -> Result<Gate, NetlistFault>
+        requires { g < self.now.head.gates }
+        ensures { result ≡ answer (gate_no_fault self.now.bytes.now g) (gate_no self.now.bytes.now g) }
+    {
+        let at = 13 + 9 * g;
+        let nets = self.head.nets;
+        let Ok(kind) = GateKind::try_from(self.bytes[at]) else {
+            return Err(NetlistFault::Kind(at));
+        };
+        let a = be16(self.bytes, at + 1);
+        let b = be16(self.bytes, at + 3);
+        let out = be16(self.bytes, at + 5);
+        let delay = be16(self.bytes, at + 7);
+        if a >= nets || b >= nets || out >= nets {
+            return Err(NetlistFault::Net(at));
+        }
+        if (!kind.reads_a() && a != 0) || (!kind.reads_b() && b != 0) {
+            return Err(NetlistFault::Net(at));
+        }
+        if delay == 0 || delay > 64 {
+            return Err(NetlistFault::Delay(at));
+        }
+        Ok(Gate {
+            kind,
+            a,
+            b,
+            out,
+            delay,
+        })
+    }
+
+    pub(crate) fn gates(&self) -> Result<[Gate; 1024], NetlistFault>
+        ensures { result ≡ answer (gates_fault self.now.bytes.now) (table blank (gates_of self.now.bytes.now)) }
+    {
+        let mut gates = [Gate::BLANK; 1024];
+        fill_table(&mut gates[..self.head.gates as usize], |g| self.gate(g))?;
+        Ok(gates)
+    }
+
+    // Watch i, which is below the nets and above the watch before it.
+    fn watch(&self, i: usize) -> Result<u16, NetlistFault>
+        requires { i < self.now.head.watches }
+        ensures { result ≡ answer (watch_fault self.now.bytes.now i) (watch_at self.now.bytes.now i) }
+    {
+        let at = 13 + 9 * self.head.gates as usize + 2 * i;
+        let net = be16(self.bytes, at);
+        if net >= self.head.nets {
+            return Err(NetlistFault::Watch(at));
+        }
+        if i > 0 && net <= be16(self.bytes, at - 2) {
+            return Err(NetlistFault::Watch(at));
+        }
+        Ok(net)
+    }
+
+    pub(crate) fn watches(&self) -> Result<[u16; 1024], NetlistFault>
+        ensures { result ≡ answer (watches_fault self.now.bytes.now) (table 0 (watches_of self.now.bytes.now)) }
+    {
+        let mut watches = [0; 1024];
+        fill_table(
+            &mut watches[..self.head.watches as usize],
+            |i| self.watch(i),
+        )?;
+        Ok(watches)
+    }
 }
 
-// Watch i, which is below the nets and above the watch before it.
-fn read_watch(bytes: &[u8], head: Head, i: usize) -> Result<u16, NetlistFault>
-    requires head { head ≡ head_of bytes.now }
-    requires few { (head.gates ≤ 1024) × (i < head.watches) }
-    requires fits { 13 + 9 * head.gates + 2 * head.watches ≡ length bytes.now }
-    ensures { result ≡ answer (watch_fault bytes.now i) (watch_at bytes.now i) }
+// Fills a table in order, or stops at the first entry that is refused.
+fn fill_table<T: Copy, F: Fn(usize) -> Result<T, NetlistFault>>(
+    table: &mut [T],
+    entry: F,
+) -> Result<(), NetlistFault>
+    requires { (i : ℕ) → i < length table.old → F.pre entry i }
+    ensures long { length table.new ≡ length table.old }
+    ensures fills { MatchResult result (λ _. FilledTo (F.post entry) table.new (length table.new)) (StoppedBy (F.post entry) table.new) }
 {
-    let at = 13 + 9 * head.gates as usize + 2 * i;
-    let net = be16(bytes, at);
-    if net >= head.nets {
-        return Err(NetlistFault::Watch(at));
+    for (i, place) in table.iter_mut().enumerate() {
+        *place = entry(i)?;
     }
-    if i > 0 && net <= be16(bytes, at - 2) {
-        return Err(NetlistFault::Watch(at));
-    }
-    Ok(net)
-}
-
-pub(crate) fn read_watches(bytes: &[u8], head: Head) -> Result<[u16; 1024], NetlistFault>
-    requires head { head ≡ head_of bytes.now }
-    requires few { (head.gates ≤ 1024) × (head.watches ≤ 1024) }
-    requires fits { 13 + 9 * head.gates + 2 * head.watches ≡ length bytes.now }
-    ensures { result ≡ answer (watches_fault bytes.now) (table 0 (watches_of bytes.now)) }
-{
-    let mut watches = [0; 1024];
-    for i in 0..head.watches as usize {
-        watches[i] = read_watch(bytes, head, i)?;
-    }
-    Ok(watches)
+    Ok(())
 }
 
 fn is_output(gates: &[Gate], net: u16) -> bool
     ensures { result ≡ is_output gates.now net }
 {
-    for g in gates {
-        if g.out == net {
-            return true;
-        }
-    }
-    false
+    gates.iter().any(|g| g.out == net)
 }
 
 pub(crate) fn all_driven(gates: &[Gate], ports: u16, nets: u16) -> Result<(), NetlistFault>
     ensures { result ≡ answer (nets_fault ports gates.now nets) tt }
 {
-    for n in 0..nets {
-        if n >= ports && !is_output(gates, n) {
-            return Err(NetlistFault::Undriven(n as usize));
-        }
+    match (ports..nets).find(|&n| !is_output(gates, n)) {
+        Some(net) => Err(NetlistFault::Undriven(net as usize)),
+        None => Ok(()),
     }
-    Ok(())
 }

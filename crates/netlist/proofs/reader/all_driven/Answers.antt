@@ -1,19 +1,17 @@
-use Rattle.std.proofs.Common.{arith}
-use Rattle.std.proofs.lemmas.Bool.Decides.{nat_tests}
-use Rattle.netlist.specs.Checks.{net_fault}
-use Rattle.netlist.specs.declared.fault.NetlistFault.TheVariants.{Undriven}
-use Rattle.netlist.proofs.Firsts.{first_more, first_found}
+use Rattle.std.proofs.Common.{◌≡◌, true, false, rules}
+use Rattle.std.proofs.lemmas.Iterator.{first_from_Range}
+use Rattle.netlist.specs.Parts.{is_output}
+use Rattle.netlist.proofs.Firsts.{undriven_found, undriven_none}
+use borrow.Author.Tests.{tests}
 use Rattle.netlist.proofs.reader.all_driven.Goals as goal
-use Rattle.netlist.proofs.reader.all_driven.Goals.{else-n-ports-via-then-n-ports+else-not-is_output, else-n-ports-via-else-n-ports}
 
-pub returns-then-not-is_output : goal.returns-then-not-is_output
-returns-then-not-is_output c =
-    rw (first_found (net_fault c.args.ports c.args.gates.now) (Undriven c.loop-n.n) c.loop-n.n c.args.nets c.loop-n.invariant (grind (arith, nat_tests, c.if-not-is_output.ensures)) c.loop-n-test.true)
+pub returns-in-Some : goal.returns-in-Some
+returns-in-Some c =
+    let first = first_from_Range _ _ _ _ (λ n. is_output c.args.gates.now n ≡ false) (λ n. is_output c.args.gates.now n ≡ true) c.find.ensures.ran (λ x q k. search (rules, tests)) (λ x q k. search (rules, tests)) in
+    let found = rw c.in-Some.is at first in
+    rw (undriven_found c.args.ports c.args.gates.now c.args.nets c.in-Some.net found.0 found.1 found.2 found.3)
 
-pub loop-n-preserved : goal.loop-n-preserved
-loop-n-preserved c =
-    first_more (net_fault c.args.ports c.args.gates.now) c.loop-n.n c.loop-n.invariant
-    (elim c.else-n-ports.branch [
-      | else-n-ports-via-then-n-ports+else-not-is_output w ↦ grind (arith, nat_tests, w.if-not-is_output.ensures)
-      | else-n-ports-via-else-n-ports w ↦ grind (arith, nat_tests)
-    ])
+pub returns-in-None : goal.returns-in-None
+returns-in-None c =
+    let first = first_from_Range _ _ _ _ (λ n. is_output c.args.gates.now n ≡ false) (λ n. is_output c.args.gates.now n ≡ true) c.find.ensures.ran (λ x q k. search (rules, tests)) (λ x q k. search (rules, tests)) in
+    rw (undriven_none c.args.ports c.args.gates.now c.args.nets (rw c.in-None.is at first))

@@ -1,13 +1,12 @@
-use Rattle.std.proofs.Common.{◌+◌, get_or, sym, ap, ◌∙◌, arith}
-use Rattle.std.proofs.lemmas.List.Sums.{sum_by_more}
-use Rattle.netlist.specs.Parts.{blank}
+use Rattle.std.proofs.Common.{rules, arith, ◌^◌, ◌≤◌, length, take}
+use Rattle.std.proofs.lemmas.Iterator.{YieldsList-from_slice}
+use Rattle.std.proofs.lemmas.Iterator.Adapters.{fits_from_length, at_most_from_yields_List}
+use Rattle.std.proofs.lemmas.List.{length-take-le}
 use Rattle.netlist.proofs.place.Netlist.total_delay.Goals as goal
 
-pub loop-g-preserved : goal.loop-g-preserved
-loop-g-preserved c =
+-- at most 1,024 delays of 16 bits
+pub sum-requires-clause-fits : goal.sum-requires-clause-fits
+sum-requires-clause-fits c =
     let net = c.args.self.now in
-    let i = c.loop-g.g in
-    let d = net.delays i c.loop-g-test.true in (
-      ap (λ n. n + (get_or net.gates i blank).delay) c.loop-g.invariant.0 ∙ sym (sum_by_more (λ x. x.delay) net.gates i blank (omega (arith, net.wide, net.table, c.loop-g-test.true))),
-      omega (arith, d, c.loop-g.invariant.1),
-    )
+    let few : length (take net.head.gates net.gates) ≤ 1024 = omega (arith, net.table, net.wide, length-take-le net.head.gates net.gates) in
+    fits_from_length _ _ 1024 (2 ^ 32) (at_most_from_yields_List (YieldsList-from_slice (take net.head.gates net.gates) cc) few) c.map.ensures.closure (omega arith) (λ x r q k. search rules)
