@@ -1,8 +1,8 @@
 -- A mark for each tick and gate that waits. Assumes nothing.
-use Rattle.std.proofs.Common.{◌≡◌, ℕ, zero, suc, ◌+◌, ◌-◌, ◌*◌, ◌%◌, ◌<◌, ◌≤◌, Bool, true, false, ◌&&◌, ◌||◌, eqb, List, [], ◌∷◌, length, get_or, set, replicate, sym, refl, ap, ◌∙◌, ⊎_elim, arith, get_or-set_other, get_or-set_same}
+use Rattle.std.proofs.Common.{◌≡◌, ℕ, zero, suc, ◌+◌, ◌-◌, ◌*◌, ◌%◌, ◌<◌, ◌≤◌, Bool, true, false, ◌&&◌, ◌||◌, eqb, List, [], ◌∷◌, length, get_or, set, replicate, Some, sym, refl, ap, ◌∙◌, ⊎_elim, arith, get_or-set_other, get_or-set_same}
 use Rattle.std.proofs.lemmas.Bool.{and_from, and_parts, and_left, cases_eq, cases_lt, cases_Bool, eqb-true, eq-eqb, or_from, ne_eqb}
 use Rattle.calendar.specs.Order.{placed}
-use Rattle.calendar.specs.Agenda.{before, entry, waits, same_slot, rising, leads, before_tick, all_due, due}
+use Rattle.calendar.specs.Agenda.{before, entry, waits, same_slot, rising, leads, before_tick, all_due, due, first, rest}
 use Rattle.calendar.specs.Table.{slot}
 use Rattle.heap.specs.Marks.{Marked}
 use Rattle.calendar.specs.Table.{code_at}
@@ -63,3 +63,7 @@ unmarked G n today = λ t g k. get_d_replicate n false (slot G t g)
     get_d_replicate zero x i = refl
     get_d_replicate (suc n) x zero = refl
     get_d_replicate (suc n) x (suc i) = get_d_replicate n x i
+
+pub first_and_rest : (w : List Entry) (e : Entry) → first w ≡ Some e → w ≡ e ∷ rest w
+first_and_rest [] e h = let z : ◌≡◌ {A = ℕ} 0 1 = cc in absurd (omega arith)
+first_and_rest (x ∷ w) e h = let same : x ≡ e = cc in ap (λ z. z ∷ w) same

@@ -1,5 +1,6 @@
 -- What a push and a pop make of a pile. Assumes nothing.
-use Rattle.std.proofs.Common.{◌≡◌, ℕ, zero, suc, ◌+◌, ◌-◌, ◌/◌, ◌<◌, ◌≤◌, Bool, false, List, [], ◌∷◌, ◌++◌, length, get_or, take, drop, set, sym, refl, ap, ◌∙◌, subst, ⊎_elim, arith, length-set, length-take, length-take-le, get_or-drop, get_or-set_other, get_or-take}
+use Rattle.std.proofs.Common.{◌≡◌, ℕ, zero, suc, ◌+◌, ◌-◌, ◌/◌, ◌<◌, ◌≤◌, Bool, false, not, List, [], ◌∷◌, ◌++◌, length, get_or, take, drop, set, sym, refl, ap, ◌∙◌, subst, ⊎_elim, arith, length-append, length-set, length-take, length-take-le, get_or-drop, get_or-set_other, get_or-take}
+use Rattle.std.specs.Prelude.{slice_get}
 use Rattle.std.specs.List.Sorted.{IsPermutation}
 use Rattle.std.specs.List.{AllByRecursion}
 use Rattle.std.proofs.ByRecursion.{All-from_get_or}
@@ -8,8 +9,14 @@ use Rattle.std.proofs.lemmas.List.Sorted.{IsPermutation-to_front, length_permuta
 use Rattle.std.proofs.lemmas.Bool.{cases_eq}
 use Rattle.calendar.specs.Order.{Strict, in_order, placed}
 use Rattle.heap.specs.Heaps.{Heaped}
-use Rattle.heap.proofs.Heaps.{Swapped, top}
-use Rattle.calendar.proofs.Orders.{in_order_shuffled, first_in_order, swaps}
+use Rattle.heap.specs.Piles.{Content}
+use Rattle.heap.proofs.Heaps.{Swapped, tested, top}
+use Rattle.calendar.proofs.Orders.{in_order_shuffled, first_in_order, swaps, length_in_order}
+use Rattle.calendar.proofs.Entries.{strict, lt_before, ge_before}
+use Rattle.calendar.specs.contracts.entry.EntryPartialOrd.TheImpl.{partial_cmp-value}
+use Rattle.std.specs.Ordering.{partial_lt, partial_ge}
+use Rattle.calendar.specs.Agenda.{before, entry, first}
+use Rattle.calendar.specs.declared.entry.Entry.{Entry}
 
 take_set_in : {X : Type 0} (n : ℕ) (xs : List X) (i : ℕ) (v : X) → take n (set xs i v) ≡ set (take n xs) i v
 take_set_in zero xs i v = refl
@@ -22,8 +29,12 @@ module _ {X : Type 0} (lt : X → X → Bool) where
   heaped_agrees xs ys low n m le e h = λ k d f. ap (λ z. lt z (get_or ys ((k - 1) / 2) d)) (e k d f.1 (omega arith)) ∙ ap (lt (get_or xs k d)) (e ((k - 1) / 2) d (omega arith) (omega arith)) ∙ h k d (f.0, omega arith)
 
   -- a part from the start, put back
-  pub heaped_back : (ys t : List X) (n : ℕ) → length ys ≡ n → Heaped lt ys 0 (length ys) → Heaped lt (ys ++ t) 0 n
+  heaped_back : (ys t : List X) (n : ℕ) → length ys ≡ n → Heaped lt ys 0 (length ys) → Heaped lt (ys ++ t) 0 n
   heaped_back ys t n e h = heaped_agrees ys (ys ++ t) 0 (length ys) n (omega arith) (λ k d f _. get_or_append_left ys t d k (omega arith)) h
+
+  -- and it is within the whole
+  pub put_back : (ys t : List X) (n : ℕ) → length ys ≡ n → Heaped lt ys 0 (length ys) → (n ≤ length (ys ++ t)) × Heaped lt (ys ++ t) 0 n
+  put_back ys t n e h = (omega (arith, length-append ys t), heaped_back ys t n e h)
 
   -- the top of a heap stands first
   pub heap_first : Strict lt → (xs : List X) (n : ℕ) (d : X) → 0 < n → n ≤ length xs → Heaped lt xs 0 n → (rest : List X) × (in_order lt (take n xs) ≡ get_or xs 0 d ∷ rest)
@@ -108,3 +119,26 @@ module _ {X : Type 0} (lt : X → X → Bool) where
         ∙ ap (λ z. get_or xs 0 d ∷ z) (sym (in_order_shuffled lt o _ ys s))
         ∙ ap (λ z. get_or xs 0 d ∷ in_order lt z) (sym (take_at ys (drop m ws) l (popped_length ys s)))
         ∙ ap (λ z. z ∷ in_order lt (take l (ys ++ drop m ws))) (sym (kept_last d ys s))
+
+-- the first of a heap's part in order
+pub heap_head : (xs : List Entry) (n : ℕ) → n ≤ length xs → Heaped before xs 0 n → slice_get (take n xs) 0 ≡ first (in_order before (take n xs))
+heap_head xs zero p h = refl
+heap_head [] (suc n) p h = absurd (omega arith)
+heap_head (x ∷ xs) (suc n) p h = sym (ap first (heap_first before strict (x ∷ xs) (suc n) x (omega arith) p h).1)
+
+pub length_part : (xs : List Entry) (n : ℕ) → n ≤ length xs → length (in_order before (take n xs)) ≡ n
+length_part xs n p = length_in_order before (take n xs) ∙ length-take-le n xs p
+
+-- where a pile that is seen as p has room, its buffer does
+pub room_left : (xs : List Entry) (n : ℕ) (p : Content) → n ≤ length xs → ◌≡◌ {A = Content} (record { room = length xs; waiting = in_order before (take n xs) }) p → length p.waiting < p.room → n < length xs
+room_left xs n p h is room =
+    let wide : length xs ≡ p.room = ap (λ q. q.room) is in
+    let held : length (in_order before (take n xs)) ≡ length p.waiting = ap (λ q. length q.waiting) is in
+    omega (arith, length_part xs n h)
+
+-- tests of two entries of a heap, as the program makes them
+pub tested_ge : (xs : List Entry) (i j : ℕ) (t : Bool) → i < length xs → j < length xs → t ≡ partial_ge partial_cmp-value.it (get_or xs i (entry 0 0 0)) (get_or xs j (entry 0 0 0)) → (d : Entry) → before (get_or xs i d) (get_or xs j d) ≡ not t
+tested_ge xs i j t h k is = tested before xs i j (entry 0 0 0) (not t) h k (ge_before (get_or xs i (entry 0 0 0)) (get_or xs j (entry 0 0 0)) t is)
+
+pub tested_lt : (xs : List Entry) (i j : ℕ) (t : Bool) → i < length xs → j < length xs → t ≡ partial_lt partial_cmp-value.it (get_or xs i (entry 0 0 0)) (get_or xs j (entry 0 0 0)) → (d : Entry) → before (get_or xs i d) (get_or xs j d) ≡ t
+tested_lt xs i j t h k is = tested before xs i j (entry 0 0 0) t h k (lt_before (get_or xs i (entry 0 0 0)) (get_or xs j (entry 0 0 0)) t is)

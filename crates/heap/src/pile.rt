@@ -1,26 +1,45 @@
-ghost use Rattle.std.specs.Prelude.{◌≡◌, ℕ, ◌+◌, ◌-◌, ◌*◌, ◌<◌, ◌≤◌, [], ◌∷◌, length, take, Some};
-ghost use Rattle.calendar.specs.Order.{in_order, placed};
-ghost use Rattle.heap.specs.Heaps.{Heaped};
-ghost use Rattle.calendar.specs.Agenda.{before, first, before_tick};
+ghost use Rattle.std.specs.Prelude.{◌≡◌, ◌<◌, [], length, nat_le};
+ghost use Rattle.calendar.specs.Order.{placed};
+ghost use Rattle.calendar.specs.Agenda.{before, first, rest};
+ghost use Rattle.heap.specs.Piles.{Content};
 
 use crate::sift::{sift_down, sift_up};
 use calendar::entry::Entry;
+use std::marker::Model;
 
 // The first `len` of the entries are a heap.
 #[derive(Drop)]
 pub struct Pile<'a> {
-    pub entries: &'a mut [Entry],
-    pub len: usize,
+    entries: &'a mut [Entry],
+    len: usize,
+}
+
+impl<'a> Model for Pile<'a> {
+    ghost use Rattle.std.specs.Prelude.{◌≤◌, length, take};
+    ghost use Rattle.calendar.specs.Order.{in_order};
+    ghost use Rattle.calendar.specs.Agenda.{before};
+    ghost use Rattle.heap.specs.Heaps.{Heaped};
+    ghost use Rattle.heap.specs.Piles.{Content};
+
+    ghost Value = { Content };
+
+    ghost view = { λ p. record { room = length p.entries.now; waiting = in_order before (take p.len p.entries.now) } };
+
+    ghost invariant = { λ p. (p.len ≤ length p.entries.now) × Heaped before p.entries.now 0 p.len };
 }
 
 impl<'a> Pile<'a> {
+    pub(crate) fn new(entries: &'a mut [Entry]) -> Pile<'a>
+        ensures room { result.room ≡ length entries.old }
+        ensures empty { result.waiting ≡ [] }
+    {
+        Pile { entries, len: 0 }
+    }
+
     pub(crate) fn push(&mut self, e: Entry)
-        requires room { self.old.len < length self.old.entries.now }
-        requires heaped { Heaped before self.old.entries.now 0 self.old.len }
-        ensures len { self.new.len ≡ self.old.len + 1 }
-        ensures size { length self.new.entries.now ≡ length self.old.entries.now }
-        ensures heaped { Heaped before self.new.entries.now 0 self.new.len }
-        ensures items { in_order before (take self.new.len self.new.entries.now) ≡ placed before e (in_order before (take self.old.len self.old.entries.now)) }
+        requires { length self.old.waiting < self.old.room }
+        ensures room { self.new.room ≡ self.old.room }
+        ensures items { self.new.waiting ≡ placed before e self.old.waiting }
     {
         let n = self.len;
         self.entries[n] = e;
@@ -28,44 +47,32 @@ impl<'a> Pile<'a> {
         self.len = n + 1;
     }
 
-    pub(crate) fn pop(&mut self) -> Entry
-        requires some { 0 < self.old.len }
-        requires within { self.old.len ≤ length self.old.entries.now }
-        requires heaped { Heaped before self.old.entries.now 0 self.old.len }
-        ensures len { self.new.len + 1 ≡ self.old.len }
-        ensures size { length self.new.entries.now ≡ length self.old.entries.now }
-        ensures heaped { Heaped before self.new.entries.now 0 self.new.len }
-        ensures items { in_order before (take self.old.len self.old.entries.now) ≡ result ∷ in_order before (take self.new.len self.new.entries.now) }
+    pub(crate) fn pop(&mut self) -> Option<Entry>
+        ensures answer { result ≡ first self.old.waiting }
+        ensures room { self.new.room ≡ self.old.room }
+        ensures items { self.new.waiting ≡ rest self.old.waiting }
     {
-        let last = self.len - 1;
+        let last = self.len.checked_sub(1)?;
         self.entries.swap(0, last);
         sift_down(&mut self.entries[0..last]);
         self.len = last;
-        self.entries[last]
+        Some(self.entries[last])
     }
 
-    pub(crate) fn first(&self) -> Entry
-        requires some { 0 < self.now.len }
-        requires within { self.now.len ≤ length self.now.entries.now }
-        requires heaped { Heaped before self.now.entries.now 0 self.now.len }
-        ensures { Some result ≡ first (in_order before (take self.now.len self.now.entries.now)) }
+    pub(crate) fn first(&self) -> Option<Entry>
+        ensures { result ≡ first self.now.waiting }
     {
-        self.entries[0]
+        self.entries[..self.len].first().copied()
     }
 
-    pub(crate) fn waits_before(&self, tick: u32) -> bool
-        requires within { self.now.len ≤ length self.now.entries.now }
-        requires heaped { Heaped before self.now.entries.now 0 self.now.len }
-        ensures { result ≡ before_tick (in_order before (take self.now.len self.now.entries.now)) tick }
+    pub(crate) fn is_full(&self) -> bool
+        ensures { result ≡ nat_le self.now.room (length self.now.waiting) }
     {
-        if self.len == 0 {
-            return false;
-        }
-        self.first().tick < tick
+        self.len == self.entries.len()
     }
 
     pub(crate) fn room(&self) -> usize
-        ensures { result ≡ length self.now.entries.now }
+        ensures { result ≡ self.now.room }
     {
         self.entries.len()
     }

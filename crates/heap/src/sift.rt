@@ -5,13 +5,6 @@ ghost use Rattle.calendar.specs.Agenda.{before};
 
 use calendar::entry::Entry;
 
-pub(crate) fn earlier(a: Entry, b: Entry) -> bool
-    ensures { result ≡ before a b }
-{
-    a.tick < b.tick
-        || (a.tick == b.tick && (a.gate < b.gate || (a.gate == b.gate && a.code < b.code)))
-}
-
 // The last value rises to its place in the heap that the others are.
 pub(crate) fn sift_up(heap: &mut [Entry])
     requires some { 0 < length heap.old }
@@ -22,7 +15,7 @@ pub(crate) fn sift_up(heap: &mut [Entry])
     let mut at = heap.len() - 1;
     while at > 0 {
         let parent = (at - 1) / 2;
-        if !earlier(heap[at], heap[parent]) {
+        if heap[at] >= heap[parent] {
             return;
         }
         heap.swap(parent, at);
@@ -39,7 +32,7 @@ pub(crate) fn sift_down(heap: &mut [Entry])
     let mut at = 0;
     while at < heap.len() / 2 {
         let child = first_child(heap, at);
-        if !earlier(heap[child], heap[at]) {
+        if heap[child] >= heap[at] {
             return;
         }
         heap.swap(at, child);
@@ -58,7 +51,7 @@ fn first_child(heap: &[Entry], at: usize) -> usize
     if right == heap.len() {
         return left;
     }
-    if earlier(heap[right], heap[left]) {
+    if heap[right] < heap[left] {
         return right;
     }
     left

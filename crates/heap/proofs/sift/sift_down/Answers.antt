@@ -1,16 +1,17 @@
-use Rattle.std.proofs.Common.{length, arith}
+use Rattle.std.proofs.Common.{length, refl, arith}
 use Rattle.std.proofs.lemmas.List.Sorted.{IsPermutation-trans, IsPermutation-refl}
-use Rattle.calendar.specs.Agenda.{before, entry}
+use Rattle.calendar.specs.Agenda.{before}
 use Rattle.calendar.proofs.Entries.{strict}
-use Rattle.heap.proofs.Heaps.{sink_begins, sink_rests, sink_steps, tested}
+use Rattle.heap.proofs.Heaps.{sink_begins, sink_rests, sink_steps}
+use Rattle.heap.proofs.Piles.{tested_ge}
 use Rattle.heap.proofs.sift.sift_down.Goals as goal
 
-pub returns-then-not-earlier : goal.returns-then-not-earlier
-returns-then-not-earlier c =
+pub returns-then-ge : goal.returns-then-ge
+returns-then-ge c =
     let l = c.loop-at in
     let child = c.first_child-child.result in
-    let later = tested before l.heap child l.at (entry 0 0 0) _ (omega arith) (omega arith) c.if-not-earlier.ensures in
-    record { shuffled = l.invariant.0; heaped = sink_rests before strict l.heap l.at child (length l.heap) later c.first_child-child.ensures.least l.invariant.1 }
+    let later = tested_ge l.heap child l.at _ (omega arith) (omega arith) c.if-ge.ensures in
+    record { shuffled = l.invariant.1; heaped = sink_rests before strict l.heap l.at child (length l.heap) later c.first_child-child.ensures.least l.invariant.2 }
 
 pub loop-at-preserved : goal.loop-at-preserved
 loop-at-preserved c =
@@ -19,8 +20,8 @@ loop-at-preserved c =
     let is = c.first_child-child.ensures in
     let zs = c.swap.new.self in
     let told = c.swap.ensures in
-    let sooner = tested before l.heap child l.at (entry 0 0 0) _ (omega arith) (omega arith) c.if-not-earlier.ensures in
-    (IsPermutation-trans _ l.heap zs l.invariant.0 told.permutation, rw told.len (sink_steps before strict l.heap zs l.at child (length l.heap) is.child.0 is.child.1 is.child.2 (told.by_index.0, told.by_index.1, told.by_index.2) sooner is.least l.invariant.1))
+    let sooner = tested_ge l.heap child l.at _ (omega arith) (omega arith) c.if-ge.ensures in
+    (omega arith, IsPermutation-trans _ l.heap zs l.invariant.1 told.permutation, rw told.len (sink_steps before strict l.heap zs l.at child (length l.heap) is.child.0 is.child.1 is.child.2 (told.by_index.0, told.by_index.1, told.by_index.2) sooner is.least l.invariant.2))
 
 pub loop-at-init : goal.loop-at-init
-loop-at-init c = (IsPermutation-refl _, sink_begins before c.args.heap.now _ c.requires.heaped)
+loop-at-init c = (refl, IsPermutation-refl _, sink_begins before c.args.heap.now _ c.requires.heaped)

@@ -1,8 +1,7 @@
-use Rattle.std.proofs.Common.{sym, ap}
-use Rattle.calendar.specs.Agenda.{before, entry, first}
-use Rattle.calendar.proofs.Entries.{strict}
-use Rattle.heap.proofs.Piles.{heap_first}
+use Rattle.std.proofs.Common.{ap, ◌∙◌}
+use Rattle.calendar.specs.Agenda.{first}
+use Rattle.heap.proofs.Piles.{heap_head}
 use Rattle.heap.proofs.pile.Pile.first.Goals as goal
 
 pub returns : goal.returns
-returns c = sym (ap first (heap_first before strict c.args.self.now.entries.now c.args.self.now.len (entry 0 0 0) c.requires.some c.requires.within c.requires.heaped).1)
+returns c = c.copied.ensures ∙ c.first.ensures.value ∙ heap_head c.self.inside.entries.now c.self.inside.len c.self.invariant.0 c.self.invariant.1 ∙ ap (λ p. first p.waiting) c.self.view_is

@@ -1,24 +1,42 @@
-use Rattle.std.proofs.Common.{◌-◌, arith, rules}
-use Rattle.std.proofs.lemmas.Slice.{overwrites}
-use Rattle.calendar.specs.Agenda.{before, entry}
+use Rattle.std.proofs.Common.{◌≡◌, ◌-◌, ap, sym, ◌∙◌, arith, Some}
+use Rattle.calendar.specs.Agenda.{before, entry, first, rest}
 use Rattle.calendar.proofs.Entries.{strict}
-use Rattle.heap.proofs.Piles.{pop_ready, popped_length, popped_items, heaped_back}
+use Rattle.heap.proofs.Piles.{pop_ready, popped_length, popped_items, put_back}
 use Rattle.heap.proofs.pile.Pile.pop.Goals as goal
 
 pub sift_down-requires : goal.sift_down-requires
 sift_down-requires c =
-    let xs = c.args.self.now.entries.now in
-    let n = c.args.self.now.len in
+    let xs = c.self.inside.entries.now in
+    let n = c.self.inside.len in
+    let l = c.in_ok-last.last in
     let swap = c.swap.ensures in
-    record { heaped = pop_ready before strict xs c.swap.new.self n (n - 1) ((n - 1) - 0) (omega arith) (omega arith) c.requires.within swap.len (swap.by_index.0, swap.by_index.1, swap.by_index.2) c.requires.heaped }
+    record { heaped = pop_ready before strict xs c.swap.new.self n l (l - 0) (omega arith) (omega arith) c.self.invariant.0 swap.len (swap.by_index.0, swap.by_index.1, swap.by_index.2) c.self.invariant.1 }
 
-pub returns : goal.returns
-returns c =
-    let xs = c.args.self.now.entries.now in
-    let n = c.args.self.now.len in
-    let ws = c.swap.new.self in
+pub invariant_of-self : goal.invariant_of-self
+invariant_of-self c =
+    let xs = c.self.inside.entries.now in
+    let n = c.self.inside.len in
+    let l = c.in_ok-last.last in
     let swap = c.swap.ensures in
     let ys = c.sift_down.new.heap in
     let told = c.sift_down.ensures in
-    let long = popped_length before strict xs ws n (n - 1) ((n - 1) - 0) (omega arith) (omega arith) c.requires.within swap.len (swap.by_index.0, swap.by_index.1, swap.by_index.2) ys told.shuffled in
-    record { len = omega arith; size = search (rules, overwrites); heaped = heaped_back before ys _ (n - 1) long told.heaped; items = popped_items before strict xs ws n (n - 1) ((n - 1) - 0) (omega arith) (omega arith) c.requires.within swap.len (swap.by_index.0, swap.by_index.1, swap.by_index.2) (entry 0 0 0) (swap.by_index.3 (entry 0 0 0)) c.requires.heaped ys told.shuffled }
+    let long = popped_length before strict xs c.swap.new.self n l (l - 0) (omega arith) (omega arith) c.self.invariant.0 swap.len (swap.by_index.0, swap.by_index.1, swap.by_index.2) ys told.shuffled in
+    put_back before ys _ l long told.heaped
+
+pub returns-clause-answer : goal.returns-clause-answer
+returns-clause-answer c =
+    let xs = c.self.inside.entries.now in
+    let n = c.self.inside.len in
+    let l = c.in_ok-last.last in
+    let swap = c.swap.ensures in
+    let told = c.sift_down.ensures in
+    sym (ap first (popped_items before strict xs c.swap.new.self n l (l - 0) (omega arith) (omega arith) c.self.invariant.0 swap.len (swap.by_index.0, swap.by_index.1, swap.by_index.2) (entry 0 0 0) (swap.by_index.3 (entry 0 0 0)) c.self.invariant.1 c.sift_down.new.heap told.shuffled)) ∙ ap (λ p. first p.waiting) c.self.view_is
+
+pub returns-clause-items : goal.returns-clause-items
+returns-clause-items c =
+    let xs = c.self.inside.entries.now in
+    let n = c.self.inside.len in
+    let l = c.in_ok-last.last in
+    let swap = c.swap.ensures in
+    let told = c.sift_down.ensures in
+    sym (ap rest (popped_items before strict xs c.swap.new.self n l (l - 0) (omega arith) (omega arith) c.self.invariant.0 swap.len (swap.by_index.0, swap.by_index.1, swap.by_index.2) (entry 0 0 0) (swap.by_index.3 (entry 0 0 0)) c.self.invariant.1 c.sift_down.new.heap told.shuffled)) ∙ ap (λ p. rest p.waiting) c.self.view_is
