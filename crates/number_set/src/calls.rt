@@ -1,8 +1,8 @@
-ghost use Rattle.std.specs.Prelude.{◌≡◌, ℕ, ◌<◌, false, if◌then◌else◌, nat_eq};
+ghost use Rattle.std.specs.Prelude.{◌≡◌, ℕ, ◌<◌, ◌≤◌, false, if◌then◌else◌, nat_eq};
 ghost use Rattle.number_set.specs.Members.{member, Least};
 
 use crate::set::NumberSet;
-use crate::word::{first, with_bit};
+use crate::word::{first, has, with_bit};
 
 impl NumberSet {
     // The empty set.
@@ -13,6 +13,14 @@ impl NumberSet {
             words: [0; 16],
             used: 0,
         }
+    }
+
+    // Whether a number stands in the set; none from 1,024 on does.
+    pub fn contains(&self, n: u16) -> bool
+        ensures member { result ≡ member self.now.words n }
+        ensures past { 1024 ≤ n → result ≡ false }
+    {
+        n < 1024 && has(self.words[n as usize / 64], (n % 64) as u32)
     }
 
     // Adds a number or removes it, as `on` says; a number from 1,024 on is passed over.

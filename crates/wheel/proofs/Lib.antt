@@ -1,4 +1,3 @@
-pub mod Digits
 pub mod Rosters
 pub mod Rings
 pub mod Wheels

@@ -2,17 +2,17 @@
 use Rattle.std.proofs.Common.{◌≡◌, ℕ, ◌+◌, ◌*◌, ◌%◌, ◌<◌, ◌≤◌, Bool, true, false, cond, ◌&&◌, eqb, List, length, get_or, set, Some, None, sym, refl, ap, ◌∙◌, ⊎_elim, arith, get_or-set_other, get_or-set_same}
 use Rattle.std.proofs.lemmas.Bool.{and_from, cond-true, cond-false, cases_eq, cases_lt, both_ways, eq-eqb}
 use Rattle.calendar.specs.Table.{slot}
-use Rattle.calendar.specs.Agenda.{entry}
 use Rattle.calendar.proofs.Tables.{one_place, in_table}
+use Rattle.number_set.specs.declared.set.NumberSet.{NumberSet}
 use Rattle.wheel.specs.Roster.{present, Least}
-use Rattle.wheel.specs.Rings.{table, RowFirst, Inside}
+use Rattle.wheel.specs.Rings.{table, Inside}
 use Rattle.wheel.proofs.Rosters.{no_match}
 
 -- the roster after one bit was set as `on` says
-abbrev There : List ℕ → List ℕ → ℕ → ℕ → Bool → Type 0
+abbrev pub There : List NumberSet → List NumberSet → ℕ → ℕ → Bool → Type 0
 There ws vs row gate on = (r g : ℕ) → r < 65 → g < 1024 → present vs r g ≡ cond (eqb r row && eqb g gate) on (present ws r g)
 
-module _ (G : ℕ) (ws vs codes : List ℕ) (few : G ≤ 1024) (t g : ℕ) (in-gates : g < G) where
+module _ (G : ℕ) (ws vs : List NumberSet) (codes : List ℕ) (few : G ≤ 1024) (t g : ℕ) (in-gates : g < G) where
   pub removed : There ws vs (t % 65) g false → (u h : ℕ) → h < G → table G vs codes u h ≡ cond (eqb (u % 65) (t % 65) && eqb h g) None (table G ws codes u h)
   removed there u h k =
       ap (λ b. cond b (Some (get_or codes (slot G u h) 0)) None) (there (u % 65) h (omega arith) (omega arith))
@@ -22,7 +22,7 @@ module _ (G : ℕ) (ws vs codes : List ℕ) (few : G ≤ 1024) (t g : ℕ) (in-g
       by_test true = refl
       by_test false = refl
 
-  pub added : (c : ℕ) → 65 * G ≤ length codes → There ws vs (t % 65) g true → (u h : ℕ) → h < G → table G vs (set codes (slot G t g) c) u h ≡ cond (eqb (u % 65) (t % 65) && eqb h g) (Some c) (table G ws codes u h)
+  added : (c : ℕ) → 65 * G ≤ length codes → There ws vs (t % 65) g true → (u h : ℕ) → h < G → table G vs (set codes (slot G t g) c) u h ≡ cond (eqb (u % 65) (t % 65) && eqb h g) (Some c) (table G ws codes u h)
   added c wide there u h k =
       ap (λ b. cond b (Some (get_or (set codes (slot G t g) c) (slot G u h) 0)) None) (there (u % 65) h (omega arith) (omega arith))
       ∙ ⊎_elim
@@ -38,23 +38,25 @@ module _ (G : ℕ) (ws vs codes : List ℕ) (few : G ≤ 1024) (t g : ℕ) (in-g
       ∙ sym (cond-false (eqb (u % 65) (t % 65) && eqb h g) (Some c) (table G ws codes u h) no))
       (cases_eq (slot G u h) (slot G t g))
 
+  pub put_there : (c i : ℕ) → i ≡ slot G t g → 65 * G ≤ length codes → There ws vs (t % 65) g true → (u h : ℕ) → h < G → table G vs (set codes i c) u h ≡ cond (eqb (u % 65) (t % 65) && eqb h g) (Some c) (table G ws codes u h)
+  put_there c i at wide there u h k = ap (λ z. table G vs (set codes z c) u h) at ∙ added c wide there u h k
+
   pub still_inside : (on : Bool) → There ws vs (t % 65) g on → Inside G ws → Inside G vs
   still_inside on there was = λ r h k.
       there r h k.0 k.2 ∙ cond-false (eqb r (t % 65) && eqb h g) on (present ws r h) (no_match r h (t % 65) g (λ m. omega arith)) ∙ was r h k
 
-module _ (G : ℕ) (ws codes : List ℕ) (few : G ≤ 1024) (inside : Inside G ws) (t : ℕ) where
+module _ (G : ℕ) (ws : List NumberSet) (codes : List ℕ) (few : G ≤ 1024) (inside : Inside G ws) (t : ℕ) where
   pub inside_gate : (g : ℕ) → g < 1024 → present ws (t % 65) g ≡ true → g < G
   inside_gate g h p = ⊎_elim (λ l. l) (λ l. absurd (both_ways (present ws (t % 65) g) (inside (t % 65) g (omega arith, l, h)) p)) (cases_lt g G)
 
   absent : (g : ℕ) → present ws (t % 65) g ≡ false → table G ws codes t g ≡ None
   absent g h = cond-false (present ws (t % 65) g) (Some (get_or codes (slot G t g) 0)) None h
 
-  pub row_none : Least ws (t % 65) None → RowFirst (table G ws codes) t G None
-  row_none least = λ h k. absent h (least h (omega arith))
+  pub row_empty : Least ws (t % 65) None → (h : ℕ) → h < G → table G ws codes t h ≡ None
+  row_empty least h k = absent h (least h (omega arith))
 
-  pub row_some : (g : ℕ) → Least ws (t % 65) (Some g) → RowFirst (table G ws codes) t G (Some (entry t g (get_or codes (slot G t g) 0)))
-  row_some g least = (
-    refl,
+  pub row_first : (g : ℕ) → Least ws (t % 65) (Some g) → (g < G) × (table G ws codes t g ≡ Some (get_or codes (slot G t g) 0)) × ((h : ℕ) → h < g → table G ws codes t h ≡ None)
+  row_first g least = (
     inside_gate g least.0 least.1,
     cond-true (present ws (t % 65) g) (Some (get_or codes (slot G t g) 0)) None least.1,
     λ h k. absent h (least.2 h k),

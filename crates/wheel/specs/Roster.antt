@@ -1,16 +1,23 @@
--- Which gates stand in a row, a bit for each. Assumes nothing.
-use Rattle.std.specs.Prelude.{◌≡◌, ℕ, ◌+◌, ◌*◌, ◌/◌, ◌%◌, ◌<◌, Bool, true, false, ◌&&◌, List, Some, None, Option, ◌==◌, nat_lt, slice_index}
-use Rattle.wheel.specs.Digits.{digit, flag}
+-- Which gates stand in a row, a set for each. Assumes nothing.
+use Rattle.std.specs.Prelude.{◌≡◌, ℕ, ◌%◌, ◌<◌, ◌≤◌, Bool, true, false, List, Some, None, Option, slice_get}
+use Rattle.number_set.specs.declared.set.NumberSet.{NumberSet}
+use Rattle.number_set.specs.Members.{member}
 
--- gate g stands in row r: a row has 16 words, a word 64 gates
-abbrev pub present : List ℕ → ℕ → ℕ → Bool
-present ws r g = digit (slice_index ws (r * 16 + g / 64)) (g % 64) == 1
+-- n stands in the set, if there is one
+abbrev pub has_member : Option NumberSet → ℕ → Bool
+has_member None n = false
+has_member (Some s) n = member s.words n
 
--- a row's mark has a bit for each of its words that is not 0, and no other
-abbrev pub Summed : List ℕ → List ℕ → Type 0
-Summed ws ms = (r w : ℕ) → (r < 65) × (w < 64) → digit (slice_index ms r) w ≡ flag (nat_lt w 16 && nat_lt 0 (slice_index ws (r * 16 + w)))
+-- gate g stands in row r
+abbrev pub present : List NumberSet → ℕ → ℕ → Bool
+present sets r g = has_member (slice_get sets r) g
 
 -- o is the least gate of row r, or there is none
-abbrev pub Least : List ℕ → ℕ → Option ℕ → Type 0
-Least ws r None = (g : ℕ) → g < 1024 → present ws r g ≡ false
-Least ws r (Some g) = (g < 1024) × (present ws r g ≡ true) × ((h : ℕ) → h < g → present ws r h ≡ false)
+abbrev pub Least : List NumberSet → ℕ → Option ℕ → Type 0
+Least sets r None = (g : ℕ) → g < 1024 → present sets r g ≡ false
+Least sets r (Some g) = (g < 1024) × (present sets r g ≡ true) × ((h : ℕ) → h < g → present sets r h ≡ false)
+
+-- o is the first tick from t on, and before n, for which a gate stands, or there is none
+abbrev pub FirstWait : List NumberSet → ℕ → ℕ → Option ℕ → Type 0
+FirstWait sets t n None = (u : ℕ) → t ≤ u → u < n → Least sets (u % 65) None
+FirstWait sets t n (Some v) = (t ≤ v) × (v < n) × ((g : ℕ) × Least sets (v % 65) (Some g)) × ((u : ℕ) → t ≤ u → u < v → Least sets (u % 65) None)

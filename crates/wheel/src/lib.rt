@@ -1,6 +1,4 @@
 #![tactic(auto)]
 
-mod ring;
 mod roster;
 pub mod wheel;
-mod word;

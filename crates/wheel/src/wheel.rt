@@ -1,158 +1,113 @@
-ghost use Rattle.std.specs.Prelude.{◌≡◌, ◌*◌, ◌/◌, ◌≤◌, min, true, ◌||◌, length, if◌then◌else◌, Some, None, nat_eq, nat_lt};
-ghost use Rattle.calendar.specs.Agenda.{sound, new_agenda, before_tick};
-ghost use Rattle.calendar.specs.Table.{rows};
-ghost use Rattle.wheel.specs.Rings.{table, wheel_agenda, Inside, Soonest};
-ghost use Rattle.wheel.specs.Roster.{Summed};
+ghost use Rattle.std.specs.Prelude.{◌≡◌, ℕ, ◌*◌, ◌/◌, ◌<◌, ◌≤◌, min, true, length};
+ghost use Rattle.calendar.specs.Agenda.{put_answer, first, first_tick, sound, new_agenda};
+ghost use Rattle.calendar.specs.Table.{rows, slot};
+ghost use Rattle.wheel.specs.Rings.{table, wheel_agenda, Inside};
 
-use crate::ring::Ring;
-use crate::roster::{ROWS, Roster, WORDS};
+use crate::roster::{ROWS, first_wait, set_gate};
 use calendar::calendar::Calendar;
+use calendar::checks::{check_slot, check_turn};
 use calendar::entry::{CalendarFault, Entry, Reason};
+use number_set::set::NumberSet;
 
-// A calendar in a buffer of codes that the caller lends: a row for each tick that can wait, in it a place for each gate.
+// A calendar in a buffer of codes that the caller lends: a row for each tick that can wait, in it a
+// place for each gate. The roster says which of them wait.
 #[derive(Drop)]
 pub struct Wheel<'a> {
-    ring: Ring<'a>,
+    codes: &'a mut [u16],
+    gates: u16,
+    roster: [NumberSet; ROWS],
     today: u32,
-    count: usize,
-    soon: u32,
-    ghost wide: { 65 * ring.gates ≤ length ring.codes.now },
-    ghost few: { ring.gates ≤ 1024 },
-    ghost words: { length ring.roster.words ≡ 1040 },
-    ghost marks: { length ring.roster.marks ≡ 65 },
-    ghost summed: { Summed ring.roster.words ring.roster.marks },
-    ghost inside: { Inside ring.gates ring.roster.words },
+    count: u32,
+    soon: Option<u32>,
+    ghost wide: { 65 * gates ≤ length codes.now },
+    ghost few: { gates ≤ 1024 },
+    ghost sets: { length roster ≡ 65 },
+    ghost inside: { Inside gates roster },
     ghost fits: { today ≤ 16777216 },
-    ghost counted: { count ≡ length (rows (table ring.gates ring.roster.words ring.codes.now) today 65 ring.gates) },
-    ghost sound: { sound (wheel_agenda today ring.gates ring.roster.words ring.codes.now) ≡ true },
-    ghost soonest: { Soonest (rows (table ring.gates ring.roster.words ring.codes.now) today 65 ring.gates) soon },
+    ghost counted: { count ≡ length (rows (table gates roster codes.now) today 65 gates) },
+    ghost sound: { sound (wheel_agenda today gates roster codes.now) ≡ true },
+    ghost soonest: { soon ≡ first_tick (rows (table gates roster codes.now) today 65 gates) },
 }
 
 impl<'a> Wheel<'a> {
     // A gate for each 65 places of the buffer, at most 1,024; what the buffer held does not matter.
     pub fn new(buffer: &'a mut [u16]) -> Wheel<'a>
-        ensures { wheel_agenda result.today result.ring.gates result.ring.roster.words result.ring.codes.now ≡ new_agenda (min (length buffer.old / 65) 1024) (64 * min (length buffer.old / 65) 1024) }
+        ensures { wheel_agenda result.today result.gates result.roster result.codes.now ≡ new_agenda (min (length buffer.old / 65) 1024) (64 * min (length buffer.old / 65) 1024) }
     {
-        let gates = gates_of(buffer.len());
-        let roster = Roster {
-            words: [0; WORDS],
-            marks: [0; ROWS],
-        };
+        let gates = (buffer.len() / 65).min(1024) as u16;
         Wheel {
-            ring: Ring {
-                codes: buffer,
-                gates,
-                roster,
-            },
+            codes: buffer,
+            gates,
+            roster: [NumberSet::new(); ROWS],
             today: 0,
             count: 0,
-            soon: 0,
+            soon: None,
         }
     }
 
-    fn waits_before(&self, tick: u32) -> bool
-        ensures { result ≡ before_tick (rows (table self.now.ring.gates self.now.ring.roster.words self.now.ring.codes.now) self.now.today 65 self.now.ring.gates) tick }
+    fn place(&self, tick: u32, gate: u16) -> usize
+        requires { gate < self.now.gates }
+        ensures value { result ≡ slot self.now.gates tick gate }
+        ensures inside { result < length self.now.codes.now }
     {
-        if self.count == 0 {
-            return false;
+        (tick % 65) as usize * self.gates as usize + gate as usize
+    }
+
+    fn check_put(&self, e: Entry) -> Result<(), CalendarFault>
+        ensures { result ≡ put_answer (wheel_agenda self.now.today self.now.gates self.now.roster self.now.codes.now) e }
+    {
+        check_slot(self.today, self.gates, e)?;
+        if self.roster[(e.tick % 65) as usize].contains(e.gate) {
+            return Err(Reason::Twice.at(self.today));
         }
-        self.soon < tick
+        if self.count >= self.capacity() {
+            return Err(Reason::Full.at(self.today));
+        }
+        Ok(())
     }
-}
 
-fn gates_of(places: usize) -> usize
-    ensures { result ≡ min (places / 65) 1024 }
-{
-    (places / 65).min(1024)
-}
-
-// The soonest tick, where any wait.
-fn earliest(count: usize, soon: u32) -> Option<u32>
-    ensures { result ≡ (if nat_eq count 0 then None else Some soon) }
-{
-    if count == 0 {
-        return None;
+    // The first entry that waits.
+    fn head(&self) -> Option<Entry>
+        ensures { result ≡ first (rows (table self.now.gates self.now.roster self.now.codes.now) self.now.today 65 self.now.gates) }
+    {
+        let tick = self.soon?;
+        let gate = self.roster[(tick % 65) as usize].first()?;
+        let code = self.codes[self.place(tick, gate)];
+        Some(Entry { tick, gate, code })
     }
-    Some(soon)
-}
-
-// The sooner of a tick and the soonest of so many that wait.
-fn sooner(count: usize, soon: u32, tick: u32) -> u32
-    ensures { result ≡ (if nat_eq count 0 || nat_lt tick soon then tick else soon) }
-{
-    if count == 0 || tick < soon {
-        return tick;
-    }
-    soon
 }
 
 impl<'a> Calendar for Wheel<'a> {
-    ghost meaning = { λ w. wheel_agenda w.today w.ring.gates w.ring.roster.words w.ring.codes.now };
+    ghost meaning = { λ w. wheel_agenda w.today w.gates w.roster w.codes.now };
 
     ghost lawful = { λ w. w.sound };
 
     ghost small = { λ w. w.few };
 
     fn put(&mut self, tick: u32, gate: u16, code: u16) -> Result<(), CalendarFault> {
-        let place = self.today;
-        if gate as usize >= self.ring.gates {
-            return Err(CalendarFault {
-                reason: Reason::NoGate,
-                place,
-            });
-        }
-        if tick <= place || tick - place > 64 {
-            return Err(CalendarFault {
-                reason: Reason::BadTick,
-                place,
-            });
-        }
-        if self.ring.waits(tick, gate) {
-            return Err(CalendarFault {
-                reason: Reason::Twice,
-                place,
-            });
-        }
-        if self.count >= 64 * self.ring.gates {
-            return Err(CalendarFault {
-                reason: Reason::Full,
-                place,
-            });
-        }
-        self.ring.put(tick, gate, code);
-        self.soon = sooner(self.count, self.soon, tick);
+        self.check_put(Entry { tick, gate, code })?;
+        let at = self.place(tick, gate);
+        self.codes[at] = code;
+        set_gate(&mut self.roster, tick, gate, true);
+        self.soon = Some(self.soon.map_or(tick, |t| t.min(tick)));
         self.count += 1;
         Ok(())
     }
 
     fn next(&self) -> Option<u32> {
-        earliest(self.count, self.soon)
+        self.soon
     }
 
     fn take(&mut self) -> Option<Entry> {
-        if self.count < 1 {
-            return None;
-        }
-        let today = self.today;
-        match self.ring.head(today, self.soon) {
-            Some(e) => {
-                self.ring.remove(e.tick, e.gate);
-                self.soon = self.ring.head_tick(today, e.tick);
-                self.count -= 1;
-                Some(e)
-            }
-            None => None,
-        }
+        let e = self.head()?;
+        set_gate(&mut self.roster, e.tick, e.gate, false);
+        self.soon = first_wait(&self.roster, e.tick, self.today + 65);
+        self.count -= 1;
+        Some(e)
     }
 
     fn turn(&mut self, tick: u32) -> Result<(), CalendarFault> {
-        let place = self.today;
-        if tick < place || tick > 16777216 || self.waits_before(tick) {
-            return Err(CalendarFault {
-                reason: Reason::BadTurn,
-                place,
-            });
-        }
+        check_turn(self.today, tick, self.soon)?;
         self.today = tick;
         Ok(())
     }
@@ -162,10 +117,10 @@ impl<'a> Calendar for Wheel<'a> {
     }
 
     fn gates(&self) -> u16 {
-        self.ring.gates as u16
+        self.gates
     }
 
     fn capacity(&self) -> u32 {
-        64 * self.ring.gates as u32
+        64 * self.gates as u32
     }
 }

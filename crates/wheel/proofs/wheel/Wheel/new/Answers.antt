@@ -1,31 +1,25 @@
-use Rattle.std.proofs.Common.{◌≡◌, ◌*◌, length, replicate, sym, refl, ap, ◌∙◌, subst, arith}
+use Rattle.std.proofs.Common.{◌*◌, length, sym, ap, ◌∙◌, arith, rules}
 use Rattle.std.proofs.lemmas.Bool.{le-leb}
-use Rattle.calendar.specs.Agenda.{sound, new_agenda}
-use Rattle.wheel.specs.Rings.{wheel_agenda, Soonest}
-use Rattle.wheel.proofs.Wheels.{new_rows, unsummed, absent, soonest_none}
+use Rattle.calendar.specs.Agenda.{sound, with_waiting, new_agenda, first_tick}
+use Rattle.wheel.proofs.Wheels.{new_rows, new_inside}
 use Rattle.wheel.proofs.wheel.Wheel.new.Goals as goal
 
 pub invariant_of-result : goal.invariant_of-result
 invariant_of-result c =
-    let G = c.gates_of-gates.result in
-    let ys = c.args.buffer.now in
-    let none = new_rows 1040 G ys in
-    let is : wheel_agenda 0 G (replicate 1040 0) ys ≡ new_agenda G (64 * G) = (λ i. record { today = 0; gates = G; capacity = 64 * G; waiting = none i }) in
+    let G = c.min-gates.result in
+    let none = new_rows c.new.result c.new.ensures G (omega arith) c.args.buffer.now in
     record {
-      wide = omega (arith, c.gates_of-gates.ensures);
-      few = omega (arith, c.gates_of-gates.ensures);
-      words = refl;
-      marks = refl;
-      summed = unsummed 1040 65;
-      inside = λ r g k. absent 1040 r g;
+      wide = omega arith;
+      few = omega arith;
+      sets = search rules;
+      inside = new_inside c.new.result c.new.ensures G (omega arith);
       fits = omega arith;
       counted = sym (ap length none);
-      sound = ap sound is ∙ le-leb 0 (64 * G) (omega arith);
-      soonest = subst (λ z. Soonest z 0) (sym none) (soonest_none 0);
+      sound = ap (λ z. sound (with_waiting (new_agenda G (64 * G)) z)) none ∙ le-leb 0 (64 * G) (omega arith);
+      soonest = sym (ap first_tick none);
     }
 
 pub returns : goal.returns
 returns c =
-    let G = c.gates_of-gates.result in
-    let none = new_rows 1040 G c.args.buffer.now in
-    (λ i. record { today = 0; gates = G; capacity = 64 * G; waiting = none i }) ∙ ap (λ g. new_agenda g (64 * g)) c.gates_of-gates.ensures
+    let G = c.min-gates.result in
+    ap (with_waiting (new_agenda G (64 * G))) (new_rows c.new.result c.new.ensures G (omega arith) c.args.buffer.now) ∙ ap (λ g. new_agenda g (64 * g)) c.min-gates.ensures
