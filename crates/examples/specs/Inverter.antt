@@ -1,12 +1,13 @@
 -- A board to work an example on: net 0 is a port, net 1 is its NOT with a delay of 2, and both are watched.
 use Rattle.std.specs.Prelude.{List, [], ◌∷◌, true}
 use Rattle.netlist.specs.Board.{Board}
+use Rattle.netlist.specs.declared.gate.GateKind.TheVariants.{Not}
 use Rattle.nine_values.specs.Nines.{nines}
 use Rattle.nine_values.specs.declared.nine.Nine.{Nine}
 use Rattle.signal.specs.Calls.{State, Call, drive, advance, opened, lived}
 
 abbrev pub inverter : Board
-inverter = record { nets = 2; ports = 1; gates = record { kind = 2; a = 0; b = 0; out = 1; delay = 2 } ∷ []; watches = 0 ∷ 1 ∷ [] }
+inverter = record { nets = 2; ports = 1; gates = record { kind = Not; a = 0; b = 0; out = 1; delay = 2 } ∷ []; watches = 0 ∷ 1 ∷ [] }
 
 -- A run of it on a fit calendar, after calls of which the latest stands first.
 abbrev pub run_after : List Call → State Nine

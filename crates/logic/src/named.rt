@@ -1,4 +1,4 @@
-ghost use Rattle.std.specs.Prelude.{◌≡◌, slice_index};
+ghost use Rattle.std.specs.Prelude.{◌≡◌, ℕ, slice_index};
 ghost use Rattle.logic.specs.Naming.{Naming, NamingLaws};
 
 use crate::family::Family;
@@ -7,11 +7,9 @@ use crate::family::Family;
 pub trait Named: Family {
     const WIDTH: usize;
 
-    ghost naming: { Naming Self.Value };
+    ghost WIDTH: { ℕ };
 
-    // The width of every name, 1 to 4.
-    fn name_width() -> usize
-        ensures { result ≡ naming.width };
+    ghost naming: { Naming Self.Value };
 
     // Byte i of the name of a value, and 0 behind its end.
     fn name_byte(a: Self::Value, i: usize) -> u8
@@ -21,5 +19,15 @@ pub trait Named: Family {
     fn of_name(name: &[u8]) -> Option<Self::Value>
         ensures { result ≡ naming.of_name name.now };
 
+    // The constant is the width of every name.
+    ghost wide: { WIDTH ≡ naming.width };
+
     ghost spelling: { NamingLaws naming };
+
+    // The width of every name, 1 to 4.
+    final fn name_width() -> usize
+        ensures { result ≡ naming.width }
+    {
+        Self::WIDTH
+    }
 }

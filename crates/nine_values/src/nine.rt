@@ -1,4 +1,4 @@
-ghost use Rattle.std.specs.Prelude.{◌≡◌};
+ghost use Rattle.std.specs.Prelude.{◌≡◌, refl};
 ghost use Rattle.nine_values.specs.Nines.{nines, nine_names, read9, byte9};
 ghost use Rattle.nine_values.specs.Laws.{nine_laws};
 ghost use Rattle.nine_values.specs.Names.{nine_spelling};
@@ -139,16 +139,14 @@ impl Family for NineValues {
     }
 
     fn definite(a: Nine) -> bool {
-        match a {
-            Nine::U | Nine::X | Nine::W => false,
-            _ => true,
-        }
+        !matches!(a, Nine::U | Nine::X | Nine::W)
     }
 
     fn code(a: Nine) -> u16 {
         a as u16
     }
 
+    // Kept as it is: a TryFrom of Nine would add an error type that this one caller throws away.
     fn of_code(code: u16) -> Option<Nine> {
         match code {
             0 => Some(Nine::U),
@@ -168,13 +166,13 @@ impl Family for NineValues {
 impl Named for NineValues {
     const WIDTH: usize = 1;
 
+    ghost WIDTH = { 1 };
+
     ghost naming = { nine_names };
 
-    ghost spelling = { nine_spelling };
+    ghost wide = { refl };
 
-    fn name_width() -> usize {
-        Self::WIDTH
-    }
+    ghost spelling = { nine_spelling };
 
     fn name_byte(a: Nine, i: usize) -> u8 {
         match i {

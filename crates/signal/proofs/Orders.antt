@@ -8,6 +8,7 @@ use Rattle.std.proofs.lemmas.Bool.{ltb-true}
 use Rattle.logic.specs.Logic.{Logic, Laws}
 use Rattle.netlist.specs.declared.gate.Gate.{Gate}
 use Rattle.netlist.specs.Board.{Board}
+use Rattle.netlist.specs.Kinds.{kind_number}
 use Rattle.signal.specs.Circuit.{gate, gate_count, operate}
 use Rattle.signal.specs.Signal.{Levels, resolved, resolved_onto, started, from_port, from_gate, carried, before, N}
 use Rattle.signal.proofs.Rows.{joined_map}
@@ -92,7 +93,7 @@ module _ {V : Type 0} {L : Logic V} (laws : Laws L) where
 -- what a gate with its start level drives onto net n at tick t
 abbrev of_started : {V : Type 0} → Logic V → Levels V → ℕ → ℕ → Gate × V → List V
 of_started L M n t x =
-    cond (eqb x.0.out n) (elim (ltb t x.0.delay) [ true ↦ x.1 | false ↦ operate L x.0.kind (M x.0.a (t - x.0.delay)) (M x.0.b (t - x.0.delay)) ] ∷ []) []
+    cond (eqb x.0.out n) (elim (ltb t x.0.delay) [ true ↦ x.1 | false ↦ operate L (kind_number x.0.kind) (M x.0.a (t - x.0.delay)) (M x.0.b (t - x.0.delay)) ] ∷ []) []
 
 module _ {V : Type 0} {L : Logic V} (laws : Laws L) (C C' : Board) (S S' : ℕ → V) (P P' : ℕ → ℕ → V)
     (same-ports : C'.ports ≡ C.ports) (pairs : IsPermutation (started C S) (started C' S')) where

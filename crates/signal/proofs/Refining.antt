@@ -4,6 +4,7 @@ use Rattle.std.specs.List.{range_with_len, flat_map}
 use Rattle.std.proofs.lemmas.Bool.{ltb-true}
 use Rattle.logic.specs.Logic.{Logic, Laws, RefinedBy}
 use Rattle.netlist.specs.Board.{Board}
+use Rattle.netlist.specs.Kinds.{kind_number}
 use Rattle.signal.specs.Circuit.{gate, gate_count, operate, results}
 use Rattle.signal.specs.Signal.{Levels, resolved, resolved_onto, driven, from_port, from_gate, drivers, carried, before, N}
 
@@ -101,7 +102,7 @@ module _ {V : Type 0} {L : Logic V} (laws : Laws L) where
     carried_refines M M' n t levels ports =
         let d : ℕ → ℕ = λ g. (gate C g).delay in
         let gates : (g : ℕ) → g < gate_count C → Finer L (driven L C S' P' M' g t) (driven L C S P M g t) = λ g lt.
-        chosen (ltb t (d g)) _ _ _ _ (starts g lt) (operate_refines (gate C g).kind _ _ _ _ (levels (gate C g).a (t - d g)) (levels (gate C g).b (t - d g))) in
+        chosen (ltb t (d g)) _ _ _ _ (starts g lt) (operate_refines (kind_number (gate C g).kind) _ _ _ _ (levels (gate C g).a (t - d g)) (levels (gate C g).b (t - d g))) in
         let ws = from_gate L C S' P' M' n t in
         let vs = from_gate L C S P M n t in
         let all = range_with_len 0 (gate_count C) in

@@ -4,6 +4,7 @@ use Rattle.std.specs.List.{range_with_len, flat_map, AllByRecursion}
 use Rattle.std.proofs.lemmas.Bool.{eq-eqb, ne_eqb, cases_eq, lt-ltb, le-ltb, cases_lt}
 use Rattle.logic.specs.Logic.{Logic}
 use Rattle.netlist.specs.Board.{Board}
+use Rattle.netlist.specs.Kinds.{kind_number}
 use Rattle.signal.specs.Circuit.{gate, gate_count, operate}
 use Rattle.signal.specs.Signal.{Levels, resolved, driven, from_port, carried, before, N, D, Signals, SignalDefinition}
 use Rattle.signal.proofs.Rows.{joined_each, counting_all}
@@ -33,7 +34,7 @@ module _ {V : Type 0} (L : Logic V) (C : Board) (S : ℕ → V) (P : ℕ → ℕ
   driven_before M g t h = rw (lt-ltb t (gate C g).delay h, driven)
 
   driven_after : (M : Levels V) (g t : ℕ) → (gate C g).delay ≤ t →
-      driven L C S P M g t ≡ operate L (gate C g).kind (M (gate C g).a (t - (gate C g).delay)) (M (gate C g).b (t - (gate C g).delay))
+      driven L C S P M g t ≡ operate L (kind_number (gate C g).kind) (M (gate C g).a (t - (gate C g).delay)) (M (gate C g).b (t - (gate C g).delay))
   driven_after M g t h = rw (le-ltb t (gate C g).delay h, driven)
 
   pub d_before : (g t : ℕ) → t < (gate C g).delay → D L C S P g t ≡ S g
@@ -41,14 +42,14 @@ module _ {V : Type 0} (L : Logic V) (C : Board) (S : ℕ → V) (P : ℕ → ℕ
   d_before g t h = driven_before (before L C S P t) g t h
 
   pub d_after : (g t : ℕ) → 1 ≤ (gate C g).delay → (gate C g).delay ≤ t →
-      D L C S P g t ≡ operate L (gate C g).kind (N L C S P (gate C g).a (t - (gate C g).delay)) (N L C S P (gate C g).b (t - (gate C g).delay))
+      D L C S P g t ≡ operate L (kind_number (gate C g).kind) (N L C S P (gate C g).a (t - (gate C g).delay)) (N L C S P (gate C g).b (t - (gate C g).delay))
   unfolding D
   d_after g t one h =
       let a = before_is t (gate C g).a (t - (gate C g).delay) (omega arith) in
       let b = before_is t (gate C g).b (t - (gate C g).delay) (omega arith) in
       driven_after (before L C S P t) g t h
-      ∙ ap (λ x. operate L (gate C g).kind x (before L C S P t (gate C g).b (t - (gate C g).delay))) a
-      ∙ ap (λ y. operate L (gate C g).kind (N L C S P (gate C g).a (t - (gate C g).delay)) y) b
+      ∙ ap (λ x. operate L (kind_number (gate C g).kind) x (before L C S P t (gate C g).b (t - (gate C g).delay))) a
+      ∙ ap (λ y. operate L (kind_number (gate C g).kind) (N L C S P (gate C g).a (t - (gate C g).delay)) y) b
 
   pub n_is : (n t : ℕ) →
       N L C S P n t
@@ -71,8 +72,8 @@ module _ {V : Type 0} (L : Logic V) (C : Board) (S : ℕ → V) (P : ℕ → ℕ
         let a = past r.a (t - r.delay) (omega arith) in
         let b = past r.b (t - r.delay) (omega arith) in
         m.late g t lt h
-        ∙ ap (λ x. operate L r.kind x (N' r.b (t - r.delay))) a
-        ∙ ap (λ y. operate L r.kind (N L C S P r.a (t - r.delay)) y) b
+        ∙ ap (λ x. operate L (kind_number r.kind) x (N' r.b (t - r.delay))) a
+        ∙ ap (λ y. operate L (kind_number r.kind) (N L C S P r.a (t - r.delay)) y) b
         ∙ sym (d_after g t one h))
         (cases_lt t r.delay)
 

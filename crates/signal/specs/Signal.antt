@@ -9,6 +9,7 @@ use Rattle.std.specs.List.{range_with_len, flat_map}
 use Rattle.logic.specs.Logic.{Logic}
 use Rattle.netlist.specs.declared.gate.Gate.{Gate}
 use Rattle.netlist.specs.Board.{Board}
+use Rattle.netlist.specs.Kinds.{kind_number}
 use Rattle.signal.specs.Circuit.{gate, gate_count, operate}
 
 -- A level for each net and tick.
@@ -37,7 +38,7 @@ module _ {V : Type 0} (L : Logic V) (C : Board) (S : ℕ → V) (P : ℕ → ℕ
   driven N g t =
       elim (nat_lt t (gate C g).delay) [
         | true ↦ S g
-        | false ↦ operate L (gate C g).kind (N (gate C g).a (t - (gate C g).delay)) (N (gate C g).b (t - (gate C g).delay))
+        | false ↦ operate L (kind_number (gate C g).kind) (N (gate C g).a (t - (gate C g).delay)) (N (gate C g).b (t - (gate C g).delay))
       ]
 
   -- What the port drives onto net n, if n is a port.
@@ -79,7 +80,7 @@ module _ {V : Type 0} (L : Logic V) (C : Board) (S : ℕ → V) (P : ℕ → ℕ
     pub early : (g t : ℕ) → g < gate_count C → t < (gate C g).delay → D' g t ≡ S g
     -- and from then on what its operation gives on its inputs a delay ago;
     pub late : (g t : ℕ) → g < gate_count C → (gate C g).delay ≤ t →
-        D' g t ≡ operate L (gate C g).kind (N' (gate C g).a (t - (gate C g).delay)) (N' (gate C g).b (t - (gate C g).delay))
+        D' g t ≡ operate L (kind_number (gate C g).kind) (N' (gate C g).a (t - (gate C g).delay)) (N' (gate C g).b (t - (gate C g).delay))
     -- and a net carries what drives it, resolved.
     pub nets : (n t : ℕ) →
         N' n t ≡ resolved L (from_port n t ++ flat_map (λ g. cond ((gate C g).out == n) (D' g t ∷ []) []) (range_with_len 0 (gate_count C)))

@@ -1,6 +1,7 @@
 -- One text written behind another. Assumes nothing.
-use Rattle.std.proofs.Common.{◌≡◌, ℕ, ◌+◌, ◌<◌, ◌≤◌, List, [], ◌∷◌, ◌++◌, length, take, drop, set, sym, refl, ap, ◌∙◌, append_assoc, add-zero, add_assoc, add-one, arith, length-append, take-append-drop}
-use Rattle.std.proofs.lemmas.List.{take_at, drop_at, drop-drop, length-take-le, set_split}
+use Rattle.std.proofs.Common.{◌≡◌, ℕ, ◌+◌, ◌≤◌, List, [], ◌++◌, length, take, drop, sym, refl, ap, ◌∙◌, append_assoc, add-zero, add_assoc, arith, length-append, take-append-drop}
+use Rattle.std.proofs.lemmas.List.{take_at, drop_at, drop-drop, length-take-le}
+use borrow.Rule.Slice.PartMut.{put_mid}
 use Rattle.tick.specs.Laid.{written, Wrote}
 
 module _ (out : List ℕ) (at : ℕ) (s : List ℕ) (fits : at + length s ≤ length out) where
@@ -29,12 +30,13 @@ pub written_none : (out : List ℕ) (at : ℕ) → out ≡ written out at []
 unfolding written
 written_none out at = sym (take-append-drop at out) ∙ ap (λ k. take at out ++ drop k out) (sym (add-zero at))
 
-pub written_one : (out : List ℕ) (at b : ℕ) → at < length out → set out at b ≡ written out at (b ∷ [])
+-- a text in the place of as many bytes
+pub wrote_over : (out text now : List ℕ) (at k : ℕ) → now ≡ text → k ≡ length text → at + length text ≤ length out → Wrote out at text (at + length text) (put_mid at k out now)
 unfolding written
-written_one out at b lt = set_split out at b lt ∙ ap (λ k. take at out ++ (b ∷ drop k out)) (sym (add-one at))
-
-pub wrote_one : (out : List ℕ) (at b : ℕ) → at < length out → Wrote out at (b ∷ []) (at + 1) (set out at b)
-wrote_one out at b lt = record { count = refl; writes = written_one out at b lt }
+wrote_over out text now at k is e fits = record {
+  count = refl;
+  writes = (λ i. take at out ++ (is i ++ drop (e i) (drop at out))) ∙ ap (λ l. take at out ++ (text ++ l)) (drop-drop (length text) at out);
+}
 
 pub wrote_none : (out : List ℕ) (at : ℕ) → Wrote out at [] at out
 wrote_none out at = record { count = sym (add-zero at); writes = written_none out at }

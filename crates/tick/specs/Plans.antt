@@ -4,12 +4,13 @@ use Rattle.netlist.specs.declared.gate.Gate.{Gate}
 use Rattle.calendar.specs.Agenda.{Agenda, entry, put_after}
 use Rattle.logic.specs.Logic.{Logic}
 use Rattle.netlist.specs.Board.{Board}
+use Rattle.netlist.specs.Kinds.{kind_number}
 use Rattle.signal.specs.Circuit.{gate, operate}
 
 module _ {V : Type 0} (L : Logic V) where
   -- what a gate gives on the levels of its inputs
   abbrev pub result_of : Gate → List V → V
-  result_of g levels = operate L g.kind (slice_index_or levels g.a L.unset) (slice_index_or levels g.b L.unset)
+  result_of g levels = operate L (kind_number g.kind) (slice_index_or levels g.a L.unset) (slice_index_or levels g.b L.unset)
 
   -- v put for a delay on, where it differs from what was planned last
   abbrev pub put_changed : ℕ → ℕ → ℕ → V → V → Agenda → Agenda

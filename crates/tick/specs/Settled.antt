@@ -1,9 +1,10 @@
 -- What drives a net, by what ports and gates drive.
-use Rattle.std.specs.Prelude.{ℕ, Bool, true, false, cond, List, [], ◌∷◌, ◌++◌, ◌==◌, nat_lt, slice_index_or, slice_set}
+use Rattle.std.specs.Prelude.{ℕ, cond, List, [], ◌∷◌, ◌++◌, Some, None, Option, ◌==◌, nat_lt, slice_index_or}
 use Rattle.std.specs.List.{range_with_len, flat_map}
 use Rattle.logic.specs.Logic.{Logic}
 use Rattle.netlist.specs.Board.{Board}
 use Rattle.signal.specs.Circuit.{gate, gate_count}
+use Rattle.signal.specs.Signal.{resolved_onto}
 
 module _ {V : Type 0} (L : Logic V) (C : Board) (ports drives : List V) (n : ℕ) where
   abbrev pub by_port : ℕ → List V
@@ -19,8 +20,12 @@ module _ {V : Type 0} (L : Logic V) (C : Board) (ports drives : List V) (n : ℕ
   abbrev pub drivers_of : List V
   drivers_of = drivers_below (gate_count C)
 
-abbrev pub joined_level : {V : Type 0} → Logic V → List V → List Bool → ℕ → V → List V
-joined_level L levels marks n v = slice_set levels n (cond (slice_index_or marks n false) (L.resolve (slice_index_or levels n L.unset) v) v)
+-- v joined to what drives a net so far, if anything does
+abbrev pub joined : {V : Type 0} → Logic V → Option V → V → V
+joined L None v = v
+joined L (Some was) v = L.resolve was v
 
-abbrev pub joined_mark : List Bool → ℕ → List Bool
-joined_mark marks n = slice_set marks n true
+-- what some drivers come to, if there are any
+abbrev pub come_to : {V : Type 0} → Logic V → List V → Option V
+come_to L [] = None
+come_to L (v ∷ vs) = Some (resolved_onto L v vs)

@@ -22,10 +22,7 @@ pub fn take_due<F: Family, C: Calendar>(calendar: &mut C, tick: u32, drives: &mu
 pub fn is_due<C: Calendar>(calendar: &C, tick: u32) -> bool
     ensures { result ≡ is_first tick (C.Calendar.meaning calendar.now).waiting }
 {
-    match calendar.next() {
-        Some(t) => t == tick,
-        None => false,
-    }
+    calendar.next() == Some(tick)
 }
 
 fn put_level<F: Family>(drives: &mut [F::Value; 1024], g: u16, v: F::Value)

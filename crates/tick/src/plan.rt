@@ -1,12 +1,13 @@
 ghost use Rattle.std.specs.Prelude.{◌≡◌, ℕ, ◌<◌, ◌≤◌, length, slice_index_or, slice_set};
-ghost use Rattle.signal.specs.Circuit.{operate};
+ghost use Rattle.signal.specs.Circuit.{gate, operate};
+ghost use Rattle.netlist.specs.Kinds.{kind_number};
 ghost use Rattle.netlist.specs.Looked.{contents};
-ghost use Rattle.tick.specs.Plans.{result_of, result_at, plans, put_changed};
+ghost use Rattle.tick.specs.Plans.{result_at, plans, put_changed};
 
 use crate::moment::Moment;
 use calendar::calendar::Calendar;
 use logic::family::Family;
-use netlist::gate::Gate;
+use netlist::gate::GateKind;
 use netlist::place::Netlist;
 
 // Each gate plans what it will drive a delay on, where that differs from what it planned last.
@@ -23,95 +24,79 @@ pub fn plan<F: Family, C: Calendar>(
     ensures calendar { C.Calendar.meaning calendar.new ≡ plans F.Family.logic (contents net.now) levels.now planned.old moment.tick net.now.head.gates (C.Calendar.meaning calendar.old) }
 {
     for g in 0..net.head.gates {
-        plan_gate::<F, C>(
-            calendar,
-            planned,
-            net.gates[g as usize],
-            g,
-            levels,
-            moment.tick,
-        );
+        plan_gate::<F, C>(calendar, planned, net, levels, moment, g);
     }
 }
 
-fn plan_gate<F: Family, C: Calendar>(
+// One gate of the netlist; a number past its gates is passed over.
+pub fn plan_gate<F: Family, C: Calendar>(
     calendar: &mut C,
     planned: &mut [F::Value; 1024],
-    gate: Gate,
-    g: u16,
+    net: &Netlist,
     levels: &[F::Value; 1024],
-    tick: u32,
+    moment: Moment,
+    g: u16,
 )
-    requires inside { g < 1024 }
-    requires first { gate.a < 1024 }
-    requires second { gate.b < 1024 }
-    requires early { tick ≤ 16777216 }
-    requires soon { gate.delay ≤ 64 }
     ensures long { length planned.old ≡ 1024 }
-    ensures planned { planned.new ≡ slice_set planned.old g (result_of F.Family.logic gate levels.now) }
-    ensures calendar { C.Calendar.meaning calendar.new ≡ put_changed F.Family.logic gate.delay g tick (result_of F.Family.logic gate levels.now) (slice_index_or planned.old g F.Family.logic.unset) (C.Calendar.meaning calendar.old) }
+    ensures planned { g < net.now.head.gates → planned.new ≡ slice_set planned.old g (result_at F.Family.logic (contents net.now) levels.now g) }
+    ensures calendar { g < net.now.head.gates → C.Calendar.meaning calendar.new ≡ put_changed F.Family.logic (gate (contents net.now) g).delay g moment.tick (result_at F.Family.logic (contents net.now) levels.now g) (slice_index_or planned.old g F.Family.logic.unset) (C.Calendar.meaning calendar.old) }
+    ensures past { net.now.head.gates ≤ g → planned.new ≡ planned.old }
+    ensures still { net.now.head.gates ≤ g → C.Calendar.meaning calendar.new ≡ C.Calendar.meaning calendar.old }
 {
-    let v = operate::<F>(
-        gate.kind,
-        level::<F>(levels, gate.a),
-        level::<F>(levels, gate.b),
-    );
-    put_changed::<F, C>(calendar, gate.delay, g, tick, v, level::<F>(planned, g));
+    if g >= net.head.gates {
+        return;
+    }
+    let gate = net.gates[g as usize];
+    let v = gate_result::<F>(gate.kind, levels[gate.a as usize], levels[gate.b as usize]);
+    put_changed::<F, C>(calendar, gate.delay, g, moment, v, planned[g as usize]);
     planned[g as usize] = v;
 }
 
-fn level<F: Family>(levels: &[F::Value; 1024], i: u16) -> F::Value
-    requires { i < 1024 }
-    ensures is { result ≡ slice_index_or levels.now i F.Family.logic.unset }
-    ensures long { length levels.now ≡ 1024 }
-{
-    levels[i as usize]
-}
-
+// Puts v for a delay on, where it differs from what was planned last.
 fn put_changed<F: Family, C: Calendar>(
     calendar: &mut C,
     delay: u16,
     g: u16,
-    tick: u32,
+    moment: Moment,
     v: F::Value,
     was: F::Value,
 )
-    requires early { tick ≤ 16777216 }
-    requires soon { delay ≤ 64 }
-    ensures { C.Calendar.meaning calendar.new ≡ put_changed F.Family.logic delay g tick v was (C.Calendar.meaning calendar.old) }
+    requires { delay ≤ 64 }
+    ensures { C.Calendar.meaning calendar.new ≡ put_changed F.Family.logic delay g moment.tick v was (C.Calendar.meaning calendar.old) }
 {
     let code = F::code(v);
-    if code == F::code(was) {
-        return;
+    if code != F::code(was) {
+        // A put that the calendar refuses changes nothing.
+        let _ = calendar.put(moment.tick + u32::from(delay), g, code);
     }
-    let _ = calendar.put(tick + delay as u32, g, code);
 }
 
 // What a gate of the kind gives on its inputs.
-pub fn operate<F: Family>(kind: u8, a: F::Value, b: F::Value) -> F::Value
-    ensures { result ≡ operate F.Family.logic kind a b }
+pub fn gate_result<F: Family>(kind: GateKind, a: F::Value, b: F::Value) -> F::Value
+    ensures { result ≡ operate F.Family.logic (kind_number kind) a b }
 {
     match kind {
-        1 => F::and(a, a),
-        2 => F::not(a),
-        k if k >= 3 && k <= 5 => two_input::<F>(k, a, b),
-        k if k >= 6 && k <= 8 => F::not(two_input::<F>(k - 3, a, b)),
-        9 => F::tri(a, b),
-        10 => F::pull_up(),
-        11 => F::pull_down(),
-        _ => F::unset(),
+        GateKind::Buffer => F::and(a, a),
+        GateKind::Not => F::not(a),
+        GateKind::And => F::and(a, b),
+        GateKind::Or => F::or(a, b),
+        GateKind::Xor => F::xor(a, b),
+        GateKind::Nand => F::not(F::and(a, b)),
+        GateKind::Nor => F::not(F::or(a, b)),
+        GateKind::Xnor => F::not(F::xor(a, b)),
+        GateKind::Tri => F::tri(a, b),
+        GateKind::PullUp => F::pull_up(),
+        GateKind::PullDown => F::pull_down(),
     }
 }
 
-// AND, OR and XOR, the kinds 3 to 5.
-fn two_input<F: Family>(kind: u8, a: F::Value, b: F::Value) -> F::Value
-    requires low { 3 ≤ kind }
-    requires high { kind ≤ 5 }
+// The same by a kind's number; one that no kind has gives unset.
+#[tactic(auto, using(crate::proofs::Numbers::no_kind))]
+pub fn operate<F: Family>(kind: u8, a: F::Value, b: F::Value) -> F::Value
     ensures { result ≡ operate F.Family.logic kind a b }
 {
-    match kind {
-        3 => F::and(a, b),
-        4 => F::or(a, b),
-        _ => F::xor(a, b),
+    match GateKind::try_from(kind) {
+        Ok(kind) => gate_result::<F>(kind, a, b),
+        Err(_) => F::unset(),
     }
 }

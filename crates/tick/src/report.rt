@@ -1,9 +1,9 @@
-ghost use Rattle.std.specs.Prelude.{◌≡◌, ◌+◌, ◌*◌, ◌<◌, ◌≤◌, [], ◌∷◌, length};
+ghost use Rattle.std.specs.Prelude.{◌≡◌, ◌+◌, ◌≤◌, length};
 ghost use Rattle.std.specs.List.{flat_map};
 ghost use Rattle.signal.specs.Calls.{change_bytes};
 ghost use Rattle.netlist.specs.Looked.{contents};
 ghost use Rattle.tick.specs.Laid.{Wrote};
-ghost use Rattle.tick.specs.Reported.{changed, with_room, change_from, made};
+ghost use Rattle.tick.specs.Reported.{with_room, change_from, made};
 
 use logic::family::Family;
 use netlist::place::Netlist;
@@ -20,30 +20,15 @@ pub fn report<F: Family>(
 ) -> usize
     ensures { Wrote out.old at (flat_map change_bytes (with_room F.Family.logic (contents net.now) old.now new.now tick at (length out.old))) result out.new }
 {
-    if at > out.len() {
+    let watches = &net.watches[..net.head.watches as usize];
+    // Some net is watched, so a place past the end has no room either.
+    if out.len().saturating_sub(at) < 8 * watches.len() {
         return at;
     }
-    if out.len() - at < 8 * net.head.watches as usize {
-        return at;
-    }
-    report_all::<F>(net, old, new, tick, out, at)
-}
-
-fn report_all<F: Family>(
-    net: &Netlist,
-    old: &[F::Value; 1024],
-    new: &[F::Value; 1024],
-    tick: u32,
-    out: &mut [u8],
-    at: usize,
-) -> usize
-    requires { at + 8 * net.now.head.watches ≤ length out.old }
-    ensures { Wrote out.old at (flat_map change_bytes (changed F.Family.logic (contents net.now) old.now new.now tick)) result out.new }
-{
     let mut end = at;
-    for i in 0..net.head.watches as usize {
-        let n = net.watches[i];
-        end = report_net::<F>(old[n as usize], new[n as usize], tick, n, out, end);
+    for n in watches {
+        let i = *n as usize;
+        end = report_net::<F>(old[i], new[i], tick, *n, out, end);
     }
     end
 }
@@ -61,33 +46,26 @@ fn report_net<F: Family>(
     requires { at + 8 ≤ length out.old }
     ensures { Wrote out.old at (flat_map change_bytes (change_from F.Family.logic old new tick n)) result out.new }
 {
-    let c = F::code(new);
-    if c == F::code(old) {
+    let code = F::code(new);
+    if code == F::code(old) {
         return at;
     }
-    put_record(out, at, tick, n, c)
+    put_record(out, at, tick, n, code)
 }
 
 fn put_record(out: &mut [u8], at: usize, tick: u32, net: u16, code: u16) -> usize
     requires { at + 8 ≤ length out.old }
     ensures { Wrote out.old at (change_bytes (made tick net code)) result out.new }
 {
-    let a = put(out, at, (tick / 16777216 % 256) as u8);
-    let b = put(out, a, (tick / 65536 % 256) as u8);
-    let c = put(out, b, (tick / 256 % 256) as u8);
-    let d = put(out, c, (tick % 256) as u8);
-    let e = put(out, d, (net / 256 % 256) as u8);
-    let f = put(out, e, (net % 256) as u8);
-    let g = put(out, f, (code / 256 % 256) as u8);
-    put(out, g, (code % 256) as u8)
+    out[at..at + 8].copy_from_slice(&record(tick, net, code));
+    at + 8
 }
 
-fn put(out: &mut [u8], at: usize, b: u8) -> usize
-    requires { at < length out.old }
-    ensures wrote { Wrote out.old at (b ∷ []) result out.new }
-    ensures long { length out.new ≡ length out.old }
-    ensures next { result ≡ at + 1 }
+fn record(tick: u32, net: u16, code: u16) -> [u8; 8]
+    ensures { result ≡ change_bytes (made tick net code) }
 {
-    out[at] = b;
-    at + 1
+    let [a, b, c, d] = tick.to_be_bytes();
+    let [e, f] = net.to_be_bytes();
+    let [g, h] = code.to_be_bytes();
+    [a, b, c, d, e, f, g, h]
 }

@@ -1,14 +1,22 @@
-use Rattle.std.proofs.Common.{◌≡◌, ℕ, ◌+◌, ◌<◌, get_or, sym, ap, subst, arith}
-use Rattle.std.proofs.lemmas.List.{get_or-take, get_or_default}
+use Rattle.std.proofs.Common.{◌≡◌, ℕ, ◌+◌, ◌<◌, ◌≤◌, true, false, length, get_or, set, take, replicate, sym, refl, ap, ◌∙◌, subst, arith}
+use Rattle.std.specs.Bool.{then_some}
+use Rattle.std.proofs.lemmas.List.{get_or-take, get_or_default, length-take-le, length-replicate}
 use Rattle.netlist.specs.Parts.{blank}
-use Rattle.signal.specs.Circuit.{gate}
+use Rattle.signal.specs.Circuit.{gate_count}
 use Rattle.netlist.specs.Looked.{contents}
-use Rattle.tick.specs.Settled.{drivers_below, joined_mark}
-use Rattle.tick.proofs.Shows.{Shows, shows_none, shows_gate}
+use Rattle.netlist.proofs.Contents.{gate_count as gates-count}
+use Rattle.tick.specs.Settled.{drivers_below}
+use Rattle.tick.proofs.Shows.{Shows, shows_ports, shows_gate, shows_all}
 use Rattle.tick.proofs.settle.settle.Goals as goal
 
-pub loop-p-init : goal.loop-p-init
-loop-p-init g c = shows_none g.F.Family.logic (contents c.args.net.now) c.args.ports.now c.args.drives.now _ c.unset-levels.ensures
+pub loop-g-init : goal.loop-g-init
+loop-g-init g c =
+    let net = c.args.net.now in
+    let p = net.head.ports in
+    let fits : p ≤ 1024 = omega (arith, net.ports, net.nets) in
+    let long : length (take p (replicate 1024 false)) ≡ p = length-take-le p (replicate 1024 false) (omega (arith, length-replicate 1024 false)) in
+    shows_ports g.F.Family.logic (contents net) c.args.ports.now c.args.drives.now c.copy_from_slice.new.self _ c.fill.new.self _ c.unset-levels.result fits (omega arith)
+    c.copy_from_slice.ensures.after refl c.unset-levels.ensures (c.fill.ensures.after (λ y h. h) ∙ ap (λ k. replicate k true) long) refl
 
 pub loop-g-preserved : goal.loop-g-preserved
 loop-g-preserved g c =
@@ -16,13 +24,21 @@ loop-g-preserved g c =
     let net = c.args.net.now in
     let C = contents net in
     let i = c.loop-g.g in
-    let x = get_or net.gates i blank in
+    let lt : i < net.head.gates = omega (arith, gates-count net, c.loop-g-test.true) in
+    let x = get_or C.gates i blank in
     let drives = c.args.drives.now in
-    let ports = c.args.ports.now in
-    let here : gate C i ≡ x = get_or-take net.head.gates net.gates i blank c.loop-g-test.true in
-    let d = get_or_default drives i c.index-drives-g.result L.unset (omega (arith, c.type_inv.drives, c.loop-g-test.true, net.table)) in
-    let inside : x.out < 1024 = omega (arith, net.outs i c.loop-g-test.true, net.nets) in
-    let vs = λ (n : ℕ). drivers_below L C ports drives n (i + 1) in
-    subst (λ m. Shows L c.join.new.levels m vs) (sym c.join.ensures.marks)
-    (subst (λ l. Shows L l (joined_mark c.loop-g.marks x.out) vs) (sym c.join.ensures.levels)
-    (shows_gate L C ports drives c.loop-g.levels c.loop-g.marks i x.out (get_or drives i c.index-drives-g.result) inside (ap (λ y. y.out) here) d c.loop-g.invariant))
+    let out : x.out < 1024 = omega (arith, ap (λ y. y.out) (get_or-take net.head.gates net.gates i blank lt), net.outs i lt, net.nets) in
+    let d = get_or_default drives i c.index-drives-g.result L.unset (omega (arith, net.table, lt)) in
+    let e = get_or_default c.loop-g.levels x.out c.index-levels-n.result L.unset (omega (arith, c.loop-g.invariant.long, out)) in
+    subst (λ v. Shows L (set c.loop-g.levels x.out v) (set c.loop-g.marks x.out true) (λ (n : ℕ). drivers_below L C c.args.ports.now drives n (i + 1))) (sym c.joined.ensures)
+    (shows_gate L C c.args.ports.now drives c.loop-g.levels c.loop-g.marks i x.out _ _ out refl
+    (c.then_some.ensures ∙ ap (then_some (get_or c.loop-g.marks x.out false)) e) d c.loop-g.invariant)
+
+pub returns : goal.returns
+returns g c =
+    let net = c.args.net.now in
+    let all : c.loop-g.g ≡ gate_count (contents net) = omega arith in
+    record {
+      long = c.loop-g.invariant.long;
+      resolves = shows_all g.F.Family.logic (contents net) c.args.ports.now c.args.drives.now c.loop-g.levels c.loop-g.marks c.loop-g.g all c.loop-g.invariant;
+    }
