@@ -1,102 +1,124 @@
--- What a chain passes over. Assumes nothing.
-use Rattle.std.proofs.Common.{◌≡◌, ℕ, zero, suc, ◌+◌, ◌-◌, ◌<◌, ◌≤◌, Bool, true, false, cond, eqb, ltb, List, length, get_or, set, replicate, sym, refl, ap, ◌∙◌, ⊎_elim, arith, length-set, get_or-set_other, get_or-set_same}
+-- What stands in the chains. Assumes nothing.
+use Rattle.std.proofs.Common.{◌≡◌, ℕ, zero, suc, ◌+◌, ◌-◌, ◌<◌, ◌≤◌, Bool, true, false, cond, eqb, List, [], ◌∷◌, length, get_or, set, replicate, Some, None, Option, sym, refl, ap, ◌∙◌, ⊎_elim, arith, length-set, get_or-set_other, get_or-set_same}
+use Rattle.std.specs.List.{range_with_len, filter, find}
 use Rattle.std.proofs.lemmas.List.{get_or-replicate, length-replicate}
-use Rattle.std.proofs.lemmas.Bool.{cond-true, cond-false, cases_eq, cases_lt, eq-eqb, ne_eqb, eqb-true, eqb-false, lt-ltb, le-ltb}
-use Rattle.fanout.specs.Seek.{seek}
+use Rattle.std.proofs.lemmas.Bool.{cond-true, cond-false, cases_eq, cases_lt, eq-eqb, ne_eqb, eqb-true, false≢true}
+use Rattle.netlist.specs.Board.{Board}
+use Rattle.signal.specs.Circuit.{gate_count}
+use Rattle.fanout.specs.declared.pin.Pin.{Pin}
+use Rattle.fanout.specs.Seek.{same_net, net_at, meets, numbers_from}
+use Rattle.fanout.specs.Left.{chain_from}
 
--- j is the first of the m numbers from i on whose key is n, or past them all
-pub record Near (key : ℕ → ℕ) (n i m j : ℕ) : Type 0 where
-  pub found : j < 1024 → (i ≤ j) × (j < i + m) × (key j ≡ n)
-  pub skipped : (h : ℕ) → i ≤ h → h < i + m → h < j → key h ≡ n → ⊥
+pub same-true : (o q : Option ℕ) → same_net o q ≡ true → o ≡ q
+same-true (Some m) (Some n) e = ap Some (eqb-true m n e)
+same-true (Some m) None e = absurd (false≢true e)
+same-true None q e = absurd (false≢true e)
 
-pub seek_near : (key : ℕ → ℕ) (n i m : ℕ) → i + m ≤ 1024 → Near key n i m (seek key n i m)
-seek_near key n i zero le = record { found = λ lt. absurd (omega arith); skipped = λ h a b c q. absurd (omega arith) }
-seek_near key n i (suc m) le = by (eqb (key i) n) refl (seek_near key n (i + 1) m (omega arith))
+module _ (test : ℕ → Bool) where
+  -- what a search finds, and those behind it
+  abbrev listed : ℕ → Option ℕ → List ℕ
+  listed count None = []
+  listed count (Some g) = g ∷ filter test (range_with_len (g + 1) (count - (g + 1)))
+
+  found : (i m count : ℕ) → i + m ≡ count → filter test (range_with_len i m) ≡ listed count (find test (range_with_len i m))
+  found i zero count e = refl
+  found i (suc m) count e = by (test i) (found (i + 1) m count (omega arith))
+    where
+      by : (b : Bool) → filter test (range_with_len (i + 1) m) ≡ listed count (find test (range_with_len (i + 1) m)) →
+          cond b (i ∷ filter test (range_with_len (i + 1) m)) (filter test (range_with_len (i + 1) m)) ≡ listed count (cond b (Some i) (find test (range_with_len (i + 1) m)))
+      by true ih = ap (λ k. i ∷ filter test (range_with_len (i + 1) k)) (omega arith)
+      by false ih = ih
+
+  pub found_inside : (i m g : ℕ) → find test (range_with_len i m) ≡ Some g → (g < i + m) × (test g ≡ true)
+  found_inside i zero g e = cc
+  found_inside i (suc m) g e = by (test i) refl e (found_inside (i + 1) m g)
+    where
+      by : (b : Bool) → test i ≡ b → cond b (Some i) (find test (range_with_len (i + 1) m)) ≡ Some g →
+          (find test (range_with_len (i + 1) m) ≡ Some g → (g < i + 1 + m) × (test g ≡ true)) → (g < i + suc m) × (test g ≡ true)
+      by true t e ih = let s : i ≡ g = cc in (omega arith, ap test (sym s) ∙ t)
+      by false t e ih = let f = ih e in (omega (arith, f.0), f.1)
+
+-- the walk from what a search finds is all that pass
+pub chain_found : (C : Board) (p : Pin) (o : Option ℕ) (i : ℕ) → i ≤ gate_count C → (at : Option ℕ) → at ≡ find (meets C p o) (numbers_from C i) → chain_from C p at ≡ filter (meets C p o) (numbers_from C i)
+chain_found C p o i le None e = sym (found (meets C p o) i (gate_count C - i) (gate_count C) (omega arith) ∙ ap (listed (meets C p o) (gate_count C)) (sym e))
+chain_found C p o i le (Some g) e =
+    ap (λ q. g ∷ filter (meets C p q) (numbers_from C (g + 1))) (same-true (net_at C p g) o (found_inside (meets C p o) i (gate_count C - i) g (sym e)).1)
+    ∙ sym (found (meets C p o) i (gate_count C - i) (gate_count C) (omega arith) ∙ ap (listed (meets C p o) (gate_count C)) (sym e))
+
+-- the first of those gates is a gate of the board
+pub found_gate : (C : Board) (p : Pin) (o : Option ℕ) (i : ℕ) → i ≤ gate_count C → (at : Option ℕ) → at ≡ find (meets C p o) (numbers_from C i) → (g : ℕ) → at ≡ Some g → g < gate_count C
+found_gate C p o i le at e g is = let f = found_inside (meets C p o) i (gate_count C - i) g (sym e ∙ is) in omega (arith, f.0)
+
+-- one step of a walk
+pub chain_more : (C : Board) (p : Pin) (at : Option ℕ) (g : ℕ) → at ≡ Some g → g < gate_count C → (next : Option ℕ) → next ≡ find (meets C p (net_at C p g)) (numbers_from C (g + 1)) → chain_from C p at ≡ g ∷ chain_from C p next
+chain_more C p at g is lt next e = ap (chain_from C p) is ∙ ap (λ gs. g ∷ gs) (sym (chain_found C p (net_at C p g) (g + 1) (omega arith) next e))
+
+pub chain_first : (C : Board) (p : Pin) (at : Option ℕ) (g : ℕ) (gs : List ℕ) → chain_from C p at ≡ g ∷ gs → at ≡ Some g
+chain_first C p None g gs e = cc
+chain_first C p (Some h) g gs e = let same : h ≡ g = cc in ap Some same
+
+never_met : (C : Board) (p : Pin) (gs : List ℕ) → find (meets C p None) gs ≡ None
+never_met C p [] = refl
+never_met C p (g ∷ gs) = by (net_at C p g) (never_met C p gs)
   where
-    by : (b : Bool) → eqb (key i) n ≡ b → Near key n (i + 1) m (seek key n (i + 1) m) → Near key n i (suc m) (cond b i (seek key n (i + 1) m))
-    by true e ih = record { found = λ lt. (omega arith, omega arith, eqb-true (key i) n e); skipped = λ h a b c q. absurd (omega arith) }
-    by false e ih = record {
-      found = λ lt. let f = ih.found lt in (omega (arith, f.0), omega (arith, f.1), f.2);
-      skipped = λ h a b c q. ⊎_elim
-          (λ same. eqb-false (key i) n e (ap key (sym same) ∙ q))
-          (λ ne. ih.skipped h (omega arith) (omega arith) c q)
-          (cases_eq h i);
-    }
-
--- the gate that a chain has come to, or the number of gates at its end
-abbrev pub stop : ℕ → ℕ → ℕ
-stop g count = cond (ltb g 1024) g count
-
-pub stop_at : (g count : ℕ) → g < 1024 → stop g count ≡ g
-stop_at g count h = cond-true (ltb g 1024) g count (lt-ltb g 1024 h)
-
-pub stop_end : (g count : ℕ) → 1024 ≤ g → stop g count ≡ count
-stop_end g count h = cond-false (ltb g 1024) g count (le-ltb g 1024 h)
-
--- g is where the chain of n goes on from i
-module _ (key : ℕ → ℕ) (n i m g count : ℕ) (sum : i + m ≡ count) (fits : count ≤ 1024) (is : g ≡ seek key n i m) where
-  near : Near key n i m (seek key n i m)
-  near = seek_near key n i m (omega arith)
-
-  pub chain_inside : g < 1024 → (g < count) × (key g ≡ n)
-  chain_inside lt =
-      let f = near.found (omega arith) in
-      (omega (arith, f.1), ap key is ∙ f.2)
-
-  pub chain_from : i ≤ stop g count
-  chain_from = ⊎_elim
-      (λ lt. let e = stop_at g count lt in let f = near.found (omega arith) in omega (arith, f.0))
-      (λ ge. let e = stop_end g count ge in omega arith)
-      (cases_lt g 1024)
-
-  pub chain_none : (h : ℕ) → i ≤ h → h < stop g count → key h ≡ n → ⊥
-  chain_none h a b = ⊎_elim
-      (λ lt. let e = stop_at g count lt in let f = near.found (omega arith) in near.skipped h a (omega (arith, f.1)) (omega arith))
-      (λ ge. let e = stop_end g count ge in near.skipped h a (omega arith) (omega arith))
-      (cases_lt g 1024)
-
--- a chain comes nearer to its end
-pub goes_on : (key : ℕ → ℕ) (g count next : ℕ) → count ≤ 1024 → g < count → next ≡ seek key (key g) (g + 1) (count - (g + 1)) → 1024 - next < 1024 - g
-goes_on key g count next fits lt is = ⊎_elim
-    (λ low. let f = (seek_near key (key g) (g + 1) (count - (g + 1)) (omega arith)).found (omega arith) in omega (arith, f.0))
-    (λ high. omega arith)
-    (cases_lt next 1024)
+    by : (o : Option ℕ) → find (meets C p None) gs ≡ None → cond (same_net o None) (Some g) (find (meets C p None) gs) ≡ None
+    by None e = e
+    by (Some m) e = e
 
 -- the chains of the gates from g on
-pub record Linked (key : ℕ → ℕ) (count g : ℕ) (first next : List ℕ) : Type 0 where
-  pub long : length first ≡ 1025
+pub record Linked (C : Board) (p : Pin) (g : ℕ) (first next : List (Option ℕ)) : Type 0 where
+  pub long : length first ≡ 1024
   pub wide : length next ≡ 1024
-  pub heads : (n : ℕ) → n ≤ 1024 → get_or first n 0 ≡ seek key n g (count - g)
-  pub links : (h : ℕ) → g ≤ h → h < count → get_or next h 0 ≡ seek key (key h) (h + 1) (count - (h + 1))
+  pub heads : (n : ℕ) → n < 1024 → get_or first n None ≡ find (meets C p (Some n)) (numbers_from C g)
+  pub links : (h : ℕ) → g ≤ h → h < gate_count C → get_or next h None ≡ find (meets C p (net_at C p h)) (numbers_from C (h + 1))
+  pub blank : (h : ℕ) → h < g → get_or next h None ≡ None
 
-pub linked_none : (key : ℕ → ℕ) (count : ℕ) → Linked key count count (replicate 1025 1024) (replicate 1024 1024)
-linked_none key count = record {
-  long = length-replicate {A = ℕ} 1025 1024;
-  wide = length-replicate {A = ℕ} 1024 1024;
-  heads = λ n h. get_or-replicate 1025 n 1024 0 (omega arith) ∙ sym (ap (seek key n count) (none count));
+pub linked_none : (C : Board) (p : Pin) (g : ℕ) → g ≡ gate_count C → g ≤ 1024 → Linked C p g (replicate 1024 None) (replicate 1024 None)
+linked_none C p g e le = record {
+  long = length-replicate {A = Option ℕ} 1024 None;
+  wide = length-replicate {A = Option ℕ} 1024 None;
+  heads = λ n h. get_or-replicate 1024 n None None h ∙ sym (ap (λ k. find (meets C p (Some n)) (range_with_len g k)) (none g (gate_count C) e));
   links = λ h a b. absurd (omega arith);
+  blank = λ h lt. get_or-replicate 1024 h None None (omega arith);
 }
   where
-    none : (k : ℕ) → k - k ≡ 0
-    none k = omega arith
+    none : (g k : ℕ) → g ≡ k → k - g ≡ 0
+    none g k e = omega arith
 
-module _ (key : ℕ → ℕ) (count g : ℕ) (first next : List ℕ) (lt : g < count) (fits : count ≤ 1024) (small : key g ≤ 1024) (l : Linked key count (g + 1) first next) where
-  step : (n : ℕ) → seek key n g (count - g) ≡ cond (eqb (key g) n) g (seek key n (g + 1) (count - (g + 1)))
-  step n = ap (seek key n g) (one count g lt)
+module _ (C : Board) (p : Pin) (g : ℕ) (first next : List (Option ℕ)) (lt : g < gate_count C) (fits : gate_count C ≤ 1024) (l : Linked C p (g + 1) first next) where
+  step : (o : Option ℕ) → find (meets C p o) (numbers_from C g) ≡ cond (meets C p o g) (Some g) (find (meets C p o) (numbers_from C (g + 1)))
+  step o = ap (λ k. find (meets C p o) (range_with_len g k)) (one (gate_count C) g lt)
     where
       one : (c k : ℕ) → k < c → c - k ≡ suc (c - (k + 1))
       one c k h = omega arith
 
-  pub linked_more : Linked key count g (set first (key g) g) (set next g (get_or first (key g) 0))
-  linked_more = record {
-    long = length-set first (key g) g ∙ l.long;
-    wide = length-set next g (get_or first (key g) 0) ∙ l.wide;
-    heads = λ n h. ⊎_elim
-        (λ e. ap (λ z. get_or (set first (key g) g) z 0) e ∙ get_or-set_same first (key g) g 0 (omega (arith, l.long)) ∙ sym (step n ∙ cond-true (eqb (key g) n) g (seek key n (g + 1) (count - (g + 1))) (eq-eqb (key g) n (sym e))))
-        (λ ne. get_or-set_other first (key g) n g 0 ne ∙ l.heads n h ∙ sym (step n ∙ cond-false (eqb (key g) n) g (seek key n (g + 1) (count - (g + 1))) (ne_eqb (key g) n (λ e. ne (sym e)))))
-        (cases_eq n (key g));
+  pub linked_more : (n : ℕ) → n < 1024 → net_at C p g ≡ Some n → Linked C p g (set first n (Some g)) (set next g (get_or first n None))
+  linked_more n small e = record {
+    long = length-set first n (Some g) ∙ l.long;
+    wide = length-set next g (get_or first n None) ∙ l.wide;
+    heads = λ m h. ⊎_elim
+        (λ same. ap (λ z. get_or (set first n (Some g)) z None) same ∙ get_or-set_same first n (Some g) None (omega (arith, l.long))
+        ∙ sym (step (Some m) ∙ cond-true (meets C p (Some m) g) (Some g) (find (meets C p (Some m)) (numbers_from C (g + 1))) (ap (λ o. same_net o (Some m)) e ∙ eq-eqb n m (sym same))))
+        (λ ne. get_or-set_other first n m (Some g) None ne ∙ l.heads m h
+        ∙ sym (step (Some m) ∙ cond-false (meets C p (Some m) g) (Some g) (find (meets C p (Some m)) (numbers_from C (g + 1))) (ap (λ o. same_net o (Some m)) e ∙ ne_eqb n m (λ q. ne (sym q)))))
+        (cases_eq m n);
     links = λ h a b. ⊎_elim
-        (λ e. ap (λ z. get_or (set next g (get_or first (key g) 0)) z 0) e ∙ get_or-set_same next g (get_or first (key g) 0) 0 (omega (arith, l.wide)) ∙ l.heads (key g) small ∙ ap (λ z. seek key (key z) (z + 1) (count - (z + 1))) (sym e))
-        (λ ne. get_or-set_other next g h (get_or first (key g) 0) 0 ne ∙ l.links h (omega arith) b)
+        (λ same. ap (λ z. get_or (set next g (get_or first n None)) z None) same ∙ get_or-set_same next g (get_or first n None) None (omega (arith, l.wide)) ∙ l.heads n small
+        ∙ ap (λ o. find (meets C p o) (numbers_from C (g + 1))) (sym e) ∙ ap (λ z. find (meets C p (net_at C p z)) (numbers_from C (z + 1))) (sym same))
+        (λ ne. get_or-set_other next g h (get_or first n None) None ne ∙ l.links h (omega arith) b)
         (cases_eq h g);
+    blank = λ h below. get_or-set_other next g h (get_or first n None) None (λ same. omega arith) ∙ l.blank h (omega arith);
+  }
+
+  pub linked_past : net_at C p g ≡ None → Linked C p g first next
+  linked_past e = record {
+    long = l.long;
+    wide = l.wide;
+    heads = λ m h. l.heads m h ∙ sym (step (Some m) ∙ ap (λ o. cond (same_net o (Some m)) (Some g) (find (meets C p (Some m)) (numbers_from C (g + 1)))) e);
+    links = λ h a b. ⊎_elim
+        (λ same. ap (λ z. get_or next z None) same ∙ l.blank g (omega arith) ∙ sym (never_met C p (numbers_from C (g + 1)))
+        ∙ ap (λ o. find (meets C p o) (numbers_from C (g + 1))) (sym e) ∙ ap (λ z. find (meets C p (net_at C p z)) (numbers_from C (z + 1))) (sym same))
+        (λ ne. l.links h (omega arith) b)
+        (cases_eq h g);
+    blank = λ h below. l.blank h (omega arith);
   }

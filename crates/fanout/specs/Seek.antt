@@ -1,38 +1,58 @@
--- Chains of the gates that meet a net. Assumes nothing.
-use Rattle.std.specs.Prelude.{◌≡◌, ℕ, zero, suc, ◌+◌, ◌-◌, ◌<◌, false, cond, ◌&&◌, List, ◌==◌, nat_le, slice_index, slice_index_or}
+-- The gates that meet a net. Assumes nothing.
+use Rattle.std.specs.Prelude.{◌≡◌, ℕ, ◌+◌, ◌-◌, ◌<◌, Bool, false, List, filter, find, Some, None, Option, ◌==◌, slice_index_or}
+use Rattle.std.specs.Bool.{then_some}
+use Rattle.std.specs.List.{range_with_len}
 use Rattle.netlist.specs.declared.gate.Gate.{Gate}
 use Rattle.logic.specs.Logic.{Logic}
 use Rattle.netlist.specs.Board.{Board}
+use Rattle.netlist.specs.Kinds.{reads_a, reads_b}
 use Rattle.number_set.specs.Members.{member}
 use Rattle.signal.specs.Circuit.{gate, gate_count}
 use Rattle.tick.specs.Plans.{result_at}
 use Rattle.fanout.specs.declared.pin.Pin.{Pin}
 use Rattle.fanout.specs.declared.pin.Pin.TheVariants.{Output, First, Second}
 
--- the net at a pin, or 1,024 where the gate's kind does not use that pin
-abbrev pub pin_key : Pin → Gate → ℕ
-pin_key Output g = g.out
-pin_key First g = cond (nat_le g.kind 9) g.a 1024
-pin_key Second g = cond (nat_le 3 g.kind && nat_le g.kind 9) g.b 1024
+-- the net at a pin, if the gate's kind uses that pin
+abbrev pub pin_net : Pin → Gate → Option ℕ
+pin_net Output g = Some g.out
+pin_net First g = then_some (reads_a g.kind) g.a
+pin_net Second g = then_some (reads_b g.kind) g.b
 
-abbrev pub key_of : Board → Pin → ℕ → ℕ
-key_of C p g = pin_key p (gate C g)
+abbrev pub net_at : Board → Pin → ℕ → Option ℕ
+net_at C p g = pin_net p (gate C g)
 
 abbrev pub out_of : Board → ℕ → ℕ
 out_of C g = (gate C g).out
 
--- the least of the m numbers from i on whose key is n, or 1,024
-abbrev pub seek : (ℕ → ℕ) → ℕ → ℕ → ℕ → ℕ
-seek key n i zero = 1024
-seek key n i (suc m) = cond (key i == n) i (seek key n (i + 1) m)
+-- two nets, and the same one
+abbrev pub same_net : Option ℕ → Option ℕ → Bool
+same_net (Some m) (Some n) = m == n
+same_net (Some m) None = false
+same_net None o = false
 
--- for each net the first of the gates below count that has it as its key
-abbrev pub Firsts : (ℕ → ℕ) → ℕ → List ℕ → Type 0
-Firsts key count first = (n : ℕ) → n < 1024 → slice_index first n ≡ seek key n 0 count
+-- whether gate g meets the net o at the pin
+abbrev pub meets : Board → Pin → Option ℕ → ℕ → Bool
+meets C p o g = same_net (net_at C p g) o
 
--- for each gate the next with the same key
-abbrev pub Nexts : (ℕ → ℕ) → ℕ → List ℕ → Type 0
-Nexts key count next = (g : ℕ) → g < count → slice_index next g ≡ seek key (key g) (g + 1) (count - (g + 1))
+-- the gates from number i on
+abbrev pub numbers_from : Board → ℕ → List ℕ
+numbers_from C i = range_with_len i (gate_count C - i)
+
+-- all gates that meet net n at the pin, in file order
+abbrev pub gates_at : Board → Pin → ℕ → List ℕ
+gates_at C p n = filter (meets C p (Some n)) (numbers_from C 0)
+
+-- the gates behind g that meet the same net as g at the pin
+abbrev pub gates_behind : Board → Pin → ℕ → List ℕ
+gates_behind C p g = filter (meets C p (net_at C p g)) (numbers_from C (g + 1))
+
+-- for each net the first gate that meets it at the pin
+abbrev pub Firsts : Board → Pin → List (Option ℕ) → Type 0
+Firsts C p first = (n : ℕ) → n < 1024 → slice_index_or first n None ≡ find (meets C p (Some n)) (numbers_from C 0)
+
+-- for each gate the next that meets the same net as it at the pin
+abbrev pub Nexts : Board → Pin → List (Option ℕ) → Type 0
+Nexts C p next = (g : ℕ) → g < gate_count C → slice_index_or next g None ≡ find (meets C p (net_at C p g)) (numbers_from C (g + 1))
 
 -- every gate that does not stand in the set has planned what it gives on the levels
 abbrev pub Idle : {V : Type 0} → Logic V → Board → List V → List V → List ℕ → Type 0

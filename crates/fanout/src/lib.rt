@@ -1,7 +1,7 @@
 #![tactic(auto)]
 
 mod due;
-mod level;
+mod gates;
 pub mod link;
 pub mod pin;
 mod plan;

@@ -1,16 +1,16 @@
-ghost use Rattle.std.specs.Prelude.{◌≡◌, ℕ, ◌<◌, true, false, length, set, if◌then◌else◌, slice_index_or, slice_set};
+ghost use Rattle.std.specs.Prelude.{◌≡◌, ℕ, ◌<◌, true, false, length, set, slice_index_or, slice_set, Some};
 ghost use Rattle.netlist.specs.Looked.{contents};
 ghost use Rattle.number_set.specs.Members.{member};
 ghost use Rattle.signal.specs.Signal.{resolved};
 ghost use Rattle.tick.specs.Plans.{result_at};
 ghost use Rattle.tick.specs.Settled.{drivers_of};
-ghost use Rattle.fanout.specs.Seek.{key_of};
+ghost use Rattle.fanout.specs.Seek.{net_at};
 
-use crate::level::level;
 use crate::pin::Pin;
 use crate::wiring::Wiring;
 use logic::family::Family;
 use number_set::set::NumberSet;
+use tick::settle::joined;
 
 // Resolves each net of the set, and empties it; adds every gate that reads a net whose level
 // changes to `gates`: a gate that does not stand there gives what it gave.
@@ -28,16 +28,14 @@ pub(crate) fn settle_touched<F: Family>(
     ensures empties { (n : ℕ) → n < 1024 → member nets.new.words n ≡ false }
     ensures readers { (g : ℕ) → g < wiring.now.net.head.gates → member gates.new.words g ≡ false → result_at F.Family.logic (contents wiring.now.net) levels.new g ≡ result_at F.Family.logic (contents wiring.now.net) levels.old g }
 {
-    // All below are settled.
-    let mut from = 0;
     while let Some(n) = nets.first() {
         nets.set(n, false);
         settle_net::<F>(wiring, ports, drives, n, levels, gates);
-        from = n + 1;
     }
 }
 
 // One net, and the gates that read it if its level changes.
+// Kept as it is: the wiring, the ports and the drives are three parameters, since a struct of borrowed tables is no plainer: each clause would name `driven.now.wiring.now.net` for `wiring.now.net`.
 fn settle_net<F: Family>(
     wiring: &Wiring,
     ports: &[F::Value; 1024],
@@ -53,10 +51,7 @@ fn settle_net<F: Family>(
     ensures readers { (g : ℕ) → g < wiring.now.net.head.gates → member gates.new.words g ≡ false → result_at F.Family.logic (contents wiring.now.net) levels.new g ≡ result_at F.Family.logic (contents wiring.now.net) levels.old g }
 {
     let v = resolve_net::<F>(wiring, ports, drives, n);
-    let fresh = F::code(v);
-    let was = level::<F>(levels, n);
-    let old = F::code(was);
-    if fresh == old {
+    if F::code(v) == F::code(levels[n as usize]) {
         return;
     }
     levels[n as usize] = v;
@@ -74,46 +69,20 @@ fn resolve_net<F: Family>(
     requires { n < 1024 }
     ensures { result ≡ resolved F.Family.logic (drivers_of F.Family.logic (contents wiring.now.net) ports.now drives.now n) }
 {
-    let mut some = n < wiring.net.head.ports;
-    let mut v = start::<F>(some, ports[n as usize]);
-    let mut g = wiring.head(Pin::Output, n);
-    while g < 1024 {
-        v = together::<F>(some, v, drives[g as usize]);
-        some = true;
-        g = wiring.next(Pin::Output, g);
+    let mut so_far = (n < wiring.net.head.ports).then_some(ports[n as usize]);
+    for g in wiring.gates_at(Pin::Output, n) {
+        so_far = Some(joined::<F>(so_far, drives[g as usize]));
     }
-    v
-}
-
-// The port's value where there is one.
-fn start<F: Family>(port: bool, v: F::Value) -> F::Value
-    ensures { result ≡ (if port then v else F.Family.logic.unset) }
-{
-    if port {
-        return v;
-    }
-    F::unset()
-}
-
-// One driver more.
-fn together<F: Family>(some: bool, was: F::Value, v: F::Value) -> F::Value
-    ensures { result ≡ (if some then F.Family.logic.resolve was v else v) }
-{
-    if some {
-        return F::resolve(was, v);
-    }
-    v
+    so_far.unwrap_or(F::unset())
 }
 
 // Adds the gates that meet a net at the pin.
 fn mark_readers(wiring: &Wiring, pin: Pin, n: u16, gates: &mut NumberSet)
     requires { n < 1024 }
     ensures kept { (g : ℕ) → g < 1024 → member gates.old.words g ≡ true → member gates.new.words g ≡ true }
-    ensures readers { (g : ℕ) → g < wiring.now.net.head.gates → key_of (contents wiring.now.net) pin g ≡ n → member gates.new.words g ≡ true }
+    ensures readers { (g : ℕ) → g < wiring.now.net.head.gates → net_at (contents wiring.now.net) pin g ≡ Some n → member gates.new.words g ≡ true }
 {
-    let mut g = wiring.head(pin, n);
-    while g < 1024 {
+    for g in wiring.gates_at(pin, n) {
         gates.set(g, true);
-        g = wiring.next(pin, g);
     }
 }

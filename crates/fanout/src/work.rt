@@ -1,4 +1,4 @@
-ghost use Rattle.std.specs.Prelude.{◌≡◌, ℕ, ◌<◌, length, slice_index_or};
+ghost use Rattle.std.specs.Prelude.{◌≡◌, ℕ, ◌<◌, ◌≤◌, length, slice_index_or};
 ghost use Rattle.calendar.specs.Agenda.{Agenda, with_waiting};
 ghost use Rattle.fanout.specs.Steady.{Steady};
 ghost use Rattle.netlist.specs.Looked.{contents};
@@ -34,6 +34,7 @@ pub fn work_changed<F: Family, C: Calendar>(
     ensures wide { length planned.new ≡ length planned.old }
     ensures levels { Steady F.Family.logic (contents wiring.now.net) ports.now drives.old levels.old planned.old → (n : ℕ) → n < 1024 → slice_index_or levels.new n F.Family.logic.unset ≡ resolved F.Family.logic (drivers_of F.Family.logic (contents wiring.now.net) ports.now drives.new n) }
     ensures planned { Steady F.Family.logic (contents wiring.now.net) ports.now drives.old levels.old planned.old → (g : ℕ) → g < wiring.now.net.head.gates → slice_index_or planned.new g F.Family.logic.unset ≡ result_at F.Family.logic (contents wiring.now.net) levels.new g }
+    ensures rest { (g : ℕ) → wiring.now.net.head.gates ≤ g → slice_index_or planned.new g F.Family.logic.unset ≡ slice_index_or planned.old g F.Family.logic.unset }
     ensures calendar { Steady F.Family.logic (contents wiring.now.net) ports.now drives.old levels.old planned.old → C.Calendar.meaning calendar.new ≡ plans F.Family.logic (contents wiring.now.net) levels.new planned.old moment.tick wiring.now.net.head.gates (with_waiting (C.Calendar.meaning calendar.old) (left_over moment.tick (C.Calendar.meaning calendar.old).waiting)) }
 {
     let mut nets = NumberSet::new();

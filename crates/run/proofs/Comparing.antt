@@ -1,6 +1,7 @@
 -- Two runs side by side.
-use Rattle.std.proofs.Common.{◌≡◌, ℕ, zero, suc, ◌+◌, ◌-◌, ◌<◌, min, Bool, true, false, cond, not, ◌&&◌, eqb, get_or, Some, None, Option, sym, refl, ap, ◌∙◌, ⊎_elim, add-one, arith}
-use Rattle.std.proofs.lemmas.Bool.{cond-true, cond-false, eq-eqb, ne_eqb, cases_eq, and_right}
+use Rattle.std.proofs.Common.{◌≡◌, ℕ, zero, suc, ◌+◌, ◌-◌, ◌<◌, ◌≤◌, min, Bool, true, false, cond, not, ◌&&◌, eqb, get_or, Some, None, Option, sym, refl, ap, ◌∙◌, ⊎_elim, add-one, arith}
+use Rattle.std.specs.Option.{MatchOption}
+use Rattle.std.proofs.lemmas.Bool.{cond-false, both_ways, eq-eqb, ne_eqb, cases_eq, and_right}
 use Rattle.logic.specs.declared.family.Family.{Ghosts as Family}
 use Rattle.logic.specs.Logic.{Logic, Laws}
 use Rattle.calendar.specs.declared.calendar.Calendar.{Ghosts as Calendar}
@@ -14,20 +15,26 @@ use Rattle.run.specs.Compared.{lowest, contradicts, contradiction, Compared, Lea
 use Rattle.run.proofs.Callings.{read_level, nets_count}
 use Rattle.run.proofs.Handlings.{of_any_make, law_of_runs}
 
--- one number that fails the test
-pub lowest_next : (test : ℕ → Bool) (i many : ℕ) → i < many → test i ≡ false → lowest test i (many - i) ≡ lowest test (i + 1) (many - (i + 1))
-lowest_next test i many lt fails =
-    ap (lowest test i) (fewer i many lt) ∙ cond-false (test i) (Some i) (lowest test (suc i) (many - (i + 1))) fails ∙ ap (λ j. lowest test j (many - (i + 1))) (sym (add-one i))
-  where
-    fewer : (i many : ℕ) → i < many → many - i ≡ suc (many - (i + 1))
-    fewer i many lt = omega arith
+-- r is the first of the numbers from i to below end that passes the test, or none does
+abbrev pub FirstIn : (ℕ → Bool) → ℕ → ℕ → Option ℕ → Type 0
+FirstIn test i end r = MatchOption r ((k : ℕ) → i ≤ k → k < end → test k ≡ false) (λ j. (i ≤ j) × (j < end) × (test j ≡ true) × ((k : ℕ) → i ≤ k → k < j → test k ≡ false))
 
-pub lowest_here : (test : ℕ → Bool) (i many : ℕ) → i < many → test i ≡ true → lowest test i (many - i) ≡ Some i
-lowest_here test i many lt passes =
-    ap (lowest test i) (fewer i many lt) ∙ cond-true (test i) (Some i) (lowest test (suc i) (many - (i + 1))) passes
+pub lowest_is : (test : ℕ → Bool) (i many end : ℕ) → i + many ≡ end → (r : Option ℕ) → FirstIn test i end r → r ≡ lowest test i many
+lowest_is test i zero end e None h = refl
+lowest_is test i zero end e (Some j) h = absurd (omega (arith, h.0, h.1))
+lowest_is test i (suc many) end e r h = by (test i) refl r h (lowest_is test (suc i) many end (omega arith))
   where
-    fewer : (i many : ℕ) → i < many → many - i ≡ suc (many - (i + 1))
-    fewer i many lt = omega arith
+    by : (b : Bool) → test i ≡ b → (r : Option ℕ) → FirstIn test i end r → ((q : Option ℕ) → FirstIn test (suc i) end q → q ≡ lowest test (suc i) many) → r ≡ cond b (Some i) (lowest test (suc i) many)
+    by true is None h ih = absurd (both_ways (test i) (h i (omega arith) (omega arith)) is)
+    by true is (Some j) h ih = ⊎_elim
+        (λ same. ap Some same)
+        (λ ne. absurd (both_ways (test i) (h.3 i (omega arith) (omega (arith, h.0))) is))
+        (cases_eq j i)
+    by false is None h ih = ih None (λ k a b. h k (omega arith) b)
+    by false is (Some j) h ih = ⊎_elim
+        (λ same. absurd (both_ways (test i) is (ap test (sym same) ∙ h.2)))
+        (λ ne. ih (Some j) (omega (arith, h.0), h.1, h.2, λ k a b. h.3 k (omega arith) b))
+        (cases_eq j i)
 
 -- tests that agree
 pub lowest_same : (p q : ℕ → Bool) (i many : ℕ) → ((n : ℕ) → n < i + many → p n ≡ q n) → lowest p i many ≡ lowest q i many

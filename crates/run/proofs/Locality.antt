@@ -4,6 +4,7 @@ use Rattle.std.specs.List.{range_with_len, flat_map}
 use Rattle.std.proofs.lemmas.Bool.{cases_lt, lt-leb, and_left}
 use Rattle.calendar.specs.declared.entry.Entry.{Entry}
 use Rattle.logic.specs.Logic.{Logic, Laws}
+use Rattle.netlist.specs.Kinds.{kind_number}
 use Rattle.netlist.specs.Board.{Board, WellFormed}
 use Rattle.signal.specs.Circuit.{gate, gate_count, operate}
 use Rattle.signal.specs.Calls.{State, drives, level, level_before, entry}
@@ -21,7 +22,7 @@ module _ {V : Type 0} {L : Logic V} (laws : Laws L) (C : Board) (ok : WellFormed
       let d = (gate C g).delay in
       let past : (n : ℕ) → level L C s' n (u - d) ≡ level L C s n (u - d) = level_same laws C s s' (u - d) starts (λ q v le. same q v (omega arith)) in
       d_after L C s'.start s'.port g u (ok.good g lt).delay_low h
-      ∙ (λ i. operate L (gate C g).kind (past (gate C g).a i) (past (gate C g).b i))
+      ∙ (λ i. operate L (kind_number (gate C g).kind) (past (gate C g).a i) (past (gate C g).b i))
       ∙ sym (d_after L C s.start s.port g u (ok.good g lt).delay_low h))
       (cases_lt u (gate C g).delay)
 

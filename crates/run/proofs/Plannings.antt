@@ -8,6 +8,7 @@ use Rattle.calendar.specs.Order.{placed}
 use Rattle.calendar.specs.Agenda.{Agenda, entry, before, waits, with_waiting, put_after, put_refused, unless}
 use Rattle.calendar.proofs.Faults.{put_stands}
 use Rattle.logic.specs.Logic.{Logic}
+use Rattle.netlist.specs.Kinds.{kind_number}
 use Rattle.netlist.specs.Board.{Board, WellFormed}
 use Rattle.signal.specs.Circuit.{gate, gate_count, operate}
 use Rattle.signal.specs.Calls.{State, drives, level}
@@ -29,7 +30,7 @@ module _ {V : Type 0} (L : Logic V) (C : Board) (ok : WellFormed C) (s : State V
   results inside are g lt =
       let d = (gate C g).delay in
       let back : t + d - d ≡ t = omega arith in
-      (λ i. operate L (gate C g).kind ((are (gate C g).a (inside g lt).0 ∙ ap (level L C s (gate C g).a) (sym back)) i) ((are (gate C g).b (inside g lt).1 ∙ ap (level L C s (gate C g).b) (sym back)) i))
+      (λ i. operate L (kind_number (gate C g).kind) ((are (gate C g).a (inside g lt).0 ∙ ap (level L C s (gate C g).a) (sym back)) i) ((are (gate C g).b (inside g lt).1 ∙ ap (level L C s (gate C g).b) (sym back)) i))
       ∙ sym (d_after L C s.start s.port g (t + d) (ok.good g lt).delay_low (omega arith))
 
   module _ (was : List V) (a : Agenda)

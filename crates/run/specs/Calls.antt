@@ -1,5 +1,6 @@
 -- What each call of a run promises, over the run itself.
-use Rattle.std.specs.Prelude.{◌≡◌, ℕ, ◌+◌, ◌≤◌, Bool, true, false, cond, ◌&&◌, ◌↔◌, List, [], ◌∷◌, length, take, drop, Some, None, Ok, Err, Option, Result, ◌==◌, nat_le}
+use Rattle.std.specs.Prelude.{◌≡◌, ℕ, ◌+◌, ◌≤◌, Bool, true, false, cond, ◌&&◌, ◌↔◌, List, [], ◌∷◌, length, take, drop, ok_or, Ok, Err, Option, Result, ◌==◌, nat_le}
+use Rattle.std.specs.Bool.{then_some}
 use Rattle.std.specs.List.{flat_map, ContainsAt as List-has}
 use Rattle.logic.specs.declared.family.Family.{Ghosts as Family}
 use Rattle.calendar.specs.declared.calendar.Calendar.{Ghosts as Calendar}
@@ -44,11 +45,10 @@ behind (Err e) out = out
 
 -- what the checks 16 and 18 answer after t ticks
 abbrev pub readied : Bool → ℕ → Result (Unit {0}) RunFault
-readied fit t = cond fit (Ok tt) (Err (UnfitCalendar t))
+readied fit t = ok_or (then_some fit tt) (UnfitCalendar t)
 
 abbrev pub valued : {V : Type 0} → Option V → ℕ → Result V RunFault
-valued (Some v) t = Ok v
-valued None t = Err (NoSuchCode t)
+valued o t = ok_or o (NoSuchCode t)
 
 abbrev pub empty : List Entry → Bool
 empty [] = true
@@ -71,6 +71,14 @@ module _ {F D V : Type 0} (f : Family F V) (c : Calendar D) where
   Ticked x out at y out' end =
       (C : Board) (s : State V) (t n : ℕ) → s.fit ≡ true → At C s t n x →
       At C s (t + 1) (n + length (changes_at f.logic C s t)) y × Wrote out at (flat_map change_bytes (changes_at f.logic C s t)) end out'
+
+  -- one tick more of the run x, whose records are written into a buffer from a place on: what it leaves, and the place behind them
+  pub record Completed (x : Run F D V f c) (out : List ℕ) (at : ℕ) (y : Run F D V f c) (out' : List ℕ) (end : ℕ) : Type 0 where
+    pub ticked : Ticked x out at y out' end
+    pub more : y.ticks ≡ x.ticks + 1
+    pub net : y.wiring.net ≡ x.wiring.net
+    pub ends : end ≤ length out'
+    pub long : length out' ≡ length out
 
   abbrev pub Opened : Netlist → D → Run F D V f c → Type 0
   Opened net cal y = Has (contents net) (opened f.logic (fit_for (contents net) (c.meaning cal))) y

@@ -8,6 +8,7 @@ use logic::family::Family;
 pub mod calls;
 pub mod compare;
 pub mod fault;
+mod work;
 
 #[derive(Drop)]
 pub struct Run<F: Family, C: Calendar> {
@@ -33,7 +34,7 @@ pub struct Run<F: Family, C: Calendar> {
 }
 
 // Why a call was refused; each case holds the completed ticks.
-#[derive(Clone, Copy)]
+#[derive(Clone, Copy, PartialEq, Eq, Debug)]
 pub enum RunFault {
     UnfitCalendar(u32),
     NoSuchInput(u32),

@@ -1,40 +1,48 @@
 ghost use Rattle.std.specs.Prelude.{◌≡◌, ◌+◌, ◌*◌, ◌<◌, ◌≤◌, true, not, ◌&&◌, length, slice_index_or};
 ghost use Rattle.tick.specs.Due.{is_first};
 ghost use Rattle.netlist.specs.Looked.{contents};
-ghost use Rattle.run.specs.Calls.{Ticked, Opened, Waked, Driven, Reads, Finished, Advanced, KeepsTime, fit_for, readied, valued, shown};
+ghost use Rattle.run.specs.Calls.{Completed, Opened, Waked, Driven, Reads, Finished, Advanced, KeepsTime, fit_for, readied, valued, shown};
 
+use super::work::work;
 use super::{Run, RunFault};
 use calendar::calendar::Calendar;
 use fanout::wiring::Wiring;
-use fanout::work::work_changed;
 use logic::family::Family;
 use netlist::place::Netlist;
-use tick::due::{is_due, take_due};
+use tick::due::is_due;
 use tick::moment::Moment;
-use tick::plan::plan;
 use tick::report::report;
-use tick::settle::settle;
 
 impl<F: Family, C: Calendar> Run<F, C> {
     // Completes one tick, writes its records from `at` on, and answers the place behind them.
     fn tick(&mut self, out: &mut [u8], at: usize) -> usize
         requires early { self.old.ticks < 16777216 }
         requires room { at + 8 * self.old.wiring.net.head.watches ≤ length out.old }
-        ensures ticked { Ticked F.Family C.Calendar self.old out.old at self.new out.new result }
-        ensures more { self.new.ticks ≡ self.old.ticks + 1 }
-        ensures net { self.new.wiring.net ≡ self.old.wiring.net }
-        ensures ends { result ≤ length out.new }
-        ensures long { length out.new ≡ length out.old }
+        ensures { Completed F.Family C.Calendar self.old out.old at self.new out.new result }
     {
-        if self.still() {
-            let _ = self.calendar.turn(self.ticks);
+        let still = self.still();
+        let _ = self.calendar.turn(self.ticks);
+        if still {
             self.ticks += 1;
             return at;
         }
-        if self.calm {
-            return self.work_calm(out, at);
-        }
-        self.work(out, at)
+        let mut levels = self.levels;
+        work::<F, C>(
+            self.calm,
+            &mut self.calendar,
+            &self.wiring,
+            &self.ports,
+            &mut self.drives,
+            &mut levels,
+            &mut self.planned,
+            Moment { tick: self.ticks },
+        );
+        let end = report::<F>(&self.wiring.net, &self.levels, &levels, self.ticks, out, at);
+        self.levels = levels;
+        self.calm = true;
+        self.records += ((end - at) / 8) as u64;
+        self.ticks += 1;
+        end
     }
 
     // Whether nothing changes at the next tick: one is complete, no port was driven since, and no entry is due.
@@ -44,68 +52,7 @@ impl<F: Family, C: Calendar> Run<F, C> {
         self.calm && !is_due(&self.calendar, self.ticks)
     }
 
-    // Works one tick in full, writes its records from `at` on, and answers the place behind them.
-    fn work(&mut self, out: &mut [u8], at: usize) -> usize
-        requires early { self.old.ticks < 16777216 }
-        requires room { at + 8 * self.old.wiring.net.head.watches ≤ length out.old }
-        ensures ticked { Ticked F.Family C.Calendar self.old out.old at self.new out.new result }
-        ensures more { self.new.ticks ≡ self.old.ticks + 1 }
-        ensures net { self.new.wiring.net ≡ self.old.wiring.net }
-        ensures ends { result ≤ length out.new }
-        ensures long { length out.new ≡ length out.old }
-    {
-        let t = self.ticks;
-        let _ = self.calendar.turn(t);
-        take_due::<F, C>(&mut self.calendar, t, &mut self.drives);
-        let levels = settle::<F>(&self.wiring.net, &self.ports, &self.drives);
-        let end = report::<F>(&self.wiring.net, &self.levels, &levels, t, out, at);
-        plan::<F, C>(
-            &mut self.calendar,
-            &mut self.planned,
-            &self.wiring.net,
-            &levels,
-            Moment { tick: t },
-        );
-        self.levels = levels;
-        self.calm = true;
-        self.records += ((end - at) / 8) as u64;
-        self.ticks = t + 1;
-        end
-    }
-
     // Opens a run; no tick is complete, and every level is unset. It never refuses: on an unfit calendar every later call is refused.
-    // Works one tick of a calm run: only the nets and gates that the entries of the tick reach.
-    fn work_calm(&mut self, out: &mut [u8], at: usize) -> usize
-        requires early { self.old.ticks < 16777216 }
-        requires calm { self.old.calm ≡ true }
-        requires room { at + 8 * self.old.wiring.net.head.watches ≤ length out.old }
-        ensures ticked { Ticked F.Family C.Calendar self.old out.old at self.new out.new result }
-        ensures more { self.new.ticks ≡ self.old.ticks + 1 }
-        ensures net { self.new.wiring.net ≡ self.old.wiring.net }
-        ensures ends { result ≤ length out.new }
-        ensures long { length out.new ≡ length out.old }
-    {
-        let t = self.ticks;
-        let _ = self.calendar.turn(t);
-        let mut levels = self.levels;
-        let planned = &mut self.planned;
-        work_changed::<F, C>(
-            &mut self.calendar,
-            &self.wiring,
-            &self.ports,
-            &mut self.drives,
-            &mut levels,
-            planned,
-            Moment { tick: t },
-        );
-        let end = report::<F>(&self.wiring.net, &self.levels, &levels, t, out, at);
-        self.levels = levels;
-        self.calm = true;
-        self.records += ((end - at) / 8) as u64;
-        self.ticks = t + 1;
-        end
-    }
-
     pub fn open(net: Netlist, calendar: C) -> Run<F, C>
         ensures { Opened F.Family C.Calendar net calendar result }
     {
@@ -186,13 +133,14 @@ impl<F: Family, C: Calendar> Run<F, C> {
         if out.len() < room {
             return Err(RunFault::ShortBuffer(self.ticks));
         }
-        let mut done: u32 = 0;
         let mut end: usize = 0;
-        while done < k && out.len() - end >= room {
+        for done in 0..k {
+            if out.len() - end < room {
+                return Ok((done, end));
+            }
             end = self.tick(out, end);
-            done += 1;
         }
-        Ok((done, end))
+        Ok((k, end))
     }
 
     // The calendar. After completed tick t of a run that was opened on a fit one its now is t, and exactly the entries of the
@@ -207,20 +155,16 @@ impl<F: Family, C: Calendar> Run<F, C> {
     fn ready(&self) -> Result<(), RunFault>
         ensures { result ≡ readied self.now.fit self.now.ticks }
     {
-        if self.fit {
-            return Ok(());
-        }
-        Err(RunFault::UnfitCalendar(self.ticks))
+        self.fit
+            .then_some(())
+            .ok_or(RunFault::UnfitCalendar(self.ticks))
     }
 
     // The value of a code.
     fn value(&self, code: u16) -> Result<F::Value, RunFault>
         ensures { result ≡ valued (F.Family.logic.of_code code) self.now.ticks }
     {
-        match F::of_code(code) {
-            Some(v) => Ok(v),
-            None => Err(RunFault::NoSuchCode(self.ticks)),
-        }
+        F::of_code(code).ok_or(RunFault::NoSuchCode(self.ticks))
     }
 }
 
@@ -246,14 +190,8 @@ fn show<F: Family>(levels: &[F::Value; 1024], net: u16) -> (u16, bool)
 fn suits<C: Calendar>(net: &Netlist, calendar: &C) -> bool
     ensures { result ≡ fit_for (contents net.now) (C.Calendar.meaning calendar.now) }
 {
-    if calendar.now() != 0 {
-        return false;
-    }
-    if let Some(_) = calendar.next() {
-        return false;
-    }
-    if calendar.gates() < net.head.gates {
-        return false;
-    }
-    calendar.capacity() >= net.total_delay()
+    calendar.now() == 0
+        && calendar.next().is_none()
+        && calendar.gates() >= net.head.gates
+        && calendar.capacity() >= net.total_delay()
 }

@@ -1,5 +1,5 @@
 // Two runs side by side, on calendars of any two makes.
-ghost use Rattle.std.specs.Prelude.{◌≡◌, ◌≤◌, min, slice_index_or};
+ghost use Rattle.std.specs.Prelude.{◌≡◌, ◌<◌, ◌≤◌, slice_index_or};
 ghost use Rattle.run.specs.Compared.{lowest, contradicts, Compared, LearningContradictsNone};
 ghost use Rattle.run.specs.Handled.{LawOfRuns};
 
@@ -24,7 +24,7 @@ pub fn contradiction<F: Family, C: Calendar, D: Calendar>(
     if first.ticks == 0 {
         return None;
     }
-    let nets = lesser(first.wiring.net.head.nets, second.wiring.net.head.nets);
+    let nets = first.wiring.net.head.nets.min(second.wiring.net.head.nets);
     lowest::<F>(&first.levels, &second.levels, nets)
 }
 
@@ -33,25 +33,16 @@ fn lowest<F: Family>(first: &[F::Value; 1024], second: &[F::Value; 1024], nets: 
     requires { nets ≤ 1024 }
     ensures { result ≡ lowest (λ n. contradicts F.Family.logic (slice_index_or first.now n F.Family.logic.unset) (slice_index_or second.now n F.Family.logic.unset)) 0 nets }
 {
-    for n in 0..nets {
-        if contradicts::<F>(first[n as usize], second[n as usize]) {
-            return Some(n);
-        }
-    }
-    None
+    (0..nets).find(
+        |&n|
+            requires { n < 1024 }
+            ensures { result ≡ contradicts F.Family.logic (slice_index_or first.entry.now n F.Family.logic.unset) (slice_index_or second.entry.now n F.Family.logic.unset) }
+        { contradicts::<F>(first[n as usize], second[n as usize]) },
+    )
 }
 
 fn contradicts<F: Family>(v: F::Value, w: F::Value) -> bool
     ensures { result ≡ contradicts F.Family.logic v w }
 {
     F::definite(v) && F::code(v) != F::code(w)
-}
-
-fn lesser(a: u16, b: u16) -> u16
-    ensures { result ≡ min a b }
-{
-    if a < b {
-        return a;
-    }
-    b
 }

@@ -32,14 +32,14 @@ impl RunFault {
         ensures { result ≡ place self }
     {
         match self {
-            RunFault::UnfitCalendar(t) => t,
-            RunFault::NoSuchInput(t) => t,
-            RunFault::NoSuchCode(t) => t,
-            RunFault::ZeroTicks(t) => t,
-            RunFault::TooManyTicks(t) => t,
-            RunFault::ShortBuffer(t) => t,
-            RunFault::NoSuchNet(t) => t,
-            RunFault::WrongTime(t) => t,
+            RunFault::UnfitCalendar(t)
+            | RunFault::NoSuchInput(t)
+            | RunFault::NoSuchCode(t)
+            | RunFault::ZeroTicks(t)
+            | RunFault::TooManyTicks(t)
+            | RunFault::ShortBuffer(t)
+            | RunFault::NoSuchNet(t)
+            | RunFault::WrongTime(t) => t,
         }
     }
 }

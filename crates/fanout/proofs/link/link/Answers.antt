@@ -1,41 +1,34 @@
-use Rattle.std.proofs.Common.{◌≡◌, ℕ, ◌+◌, ◌-◌, ◌<◌, get_or, set, sym, ap, ◌∙◌, subst, arith}
+use Rattle.std.proofs.Common.{◌≡◌, ℕ, ◌+◌, ◌-◌, ◌<◌, ◌≤◌, Some, None, sym, ap, ◌∙◌, subst, arith}
 use Rattle.netlist.specs.Looked.{contents}
-use Rattle.netlist.proofs.Contents.{gate_is}
-use Rattle.fanout.specs.Seek.{seek, pin_key, key_of}
-use Rattle.fanout.proofs.Chains.{Linked, linked_none, linked_more}
+use Rattle.netlist.proofs.Contents.{gate_count as gates-count, gate_is}
+use Rattle.signal.specs.Circuit.{gate_count}
+use Rattle.fanout.specs.Seek.{pin_net, net_at}
+use Rattle.fanout.proofs.Chains.{Linked, linked_none, linked_more, linked_past}
 use Rattle.fanout.proofs.link.link.Goals as goal
 
 pub loop-g-init : goal.loop-g-init
-loop-g-init c = (omega arith, linked_none (key_of (contents c.args.net.now) c.args.pin) c.args.net.now.head.gates)
+loop-g-init c = let net = c.args.net.now in linked_none (contents net) c.args.pin net.head.gates (sym (gates-count net)) net.table
+
+pub loop-g-preserved-in-Some : goal.loop-g-preserved-in-Some
+loop-g-preserved-in-Some c =
+    let net = c.args.net.now in
+    let C = contents net in
+    let g = c.loop-g.g - 1 in
+    let count = gates-count net in
+    let low : g < net.head.gates = omega arith in
+    let back : c.loop-g.g ≡ g + 1 = omega arith in
+    let here : net_at C c.args.pin g ≡ Some c.in-Some.n = ap (pin_net c.args.pin) (gate_is net g low) ∙ sym c.in-Some.ensures.net in
+    linked_more C c.args.pin g c.loop-g.first c.loop-g.next (omega (arith, count)) (omega (arith, count, net.table))
+    (subst (λ z. Linked C c.args.pin z c.loop-g.first c.loop-g.next) back c.loop-g.invariant) c.in-Some.n c.in-Some.ensures.small here
 
 pub loop-g-preserved : goal.loop-g-preserved
 loop-g-preserved c =
     let net = c.args.net.now in
-    let key = key_of (contents net) c.args.pin in
-    let count = net.head.gates in
+    let C = contents net in
     let g = c.loop-g.g - 1 in
-    let first = c.loop-g.first in
-    let next = c.loop-g.next in
-    let back : c.loop-g.g ≡ g + 1 = omega (arith, c.loop-g-test.true) in
-    let low : g < count = omega (arith, c.loop-g-test.true, c.loop-g.invariant.0) in
-    let k : c.key-k.result ≡ key g = c.key-k.ensures.value ∙ ap (pin_key c.args.pin) (sym (gate_is net g low)) in
-    let was : Linked key count (g + 1) first next = subst (λ z. Linked key count z first next) back c.loop-g.invariant.1 in (
-      omega (arith, low),
-      subst (λ z. Linked key count g (set first z g) (set next g (get_or first z 0))) (sym k)
-          (linked_more key count g first next low net.table (omega (arith, k, c.key-k.ensures.small)) was),
-    )
-
-pub returns : goal.returns
-returns c =
-    let l = c.loop-g.invariant.1 in
-    let net = c.args.net.now in
-    let key = key_of (contents net) c.args.pin in
-    let count = net.head.gates in
-    let z : c.loop-g.g ≡ 0 = omega (arith, c.loop-g-test.false) in
-    record {
-      heads = λ n lt. l.heads n (omega arith) ∙ (λ i. seek key n (z i) (count - z i)) ∙ ap (seek key n 0) (whole count);
-      links = λ g lt. l.links g (omega arith) lt;
-    }
-  where
-    whole : (c : ℕ) → c - 0 ≡ c
-    whole c = omega arith
+    let count = gates-count net in
+    let low : g < net.head.gates = omega arith in
+    let back : c.loop-g.g ≡ g + 1 = omega arith in
+    let here : net_at C c.args.pin g ≡ None = ap (pin_net c.args.pin) (gate_is net g low) ∙ sym c.net_at.ensures.net ∙ c.in_default.is in
+    linked_past C c.args.pin g c.loop-g.first c.loop-g.next (omega (arith, count)) (omega (arith, count, net.table))
+    (subst (λ z. Linked C c.args.pin z c.loop-g.first c.loop-g.next) back c.loop-g.invariant) here

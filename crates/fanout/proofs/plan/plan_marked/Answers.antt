@@ -4,11 +4,13 @@ use Rattle.netlist.specs.Looked.{contents}
 use Rattle.netlist.proofs.Contents.{gate_count as gates-count}
 use Rattle.tick.specs.Plans.{plans}
 use Rattle.fanout.proofs.Skips.{done_none, done_all, done_past, done_more}
-use Rattle.fanout.proofs.Sweeps.{swept_from}
+use Rattle.fanout.proofs.Sweeps.{low_nearer}
 use Rattle.fanout.proofs.plan.plan_marked.Goals as goal
 
 pub loop-g-init : goal.loop-g-init
-loop-g-init g c = done_none g.F.Family.logic (contents c.args.wiring.now.net) c.args.levels.now c.args.planned.now c.args.moment.tick (g.C.Calendar.meaning c.args.calendar.now) c.args.gates.now.words
+loop-g-init g c =
+    let net = c.args.wiring.now.net in
+    done_none g.F.Family.logic (contents net) c.args.levels.now c.args.planned.now c.args.moment.tick (g.C.Calendar.meaning c.args.calendar.now) c.args.gates.now.words (omega (arith, gates-count net, net.table))
 
 pub loop-g-preserved : goal.loop-g-preserved
 loop-g-preserved g c =
@@ -18,21 +20,16 @@ loop-g-preserved g c =
     let C = contents net in
     let e = gates-count net in
     let a = g.C.Calendar.meaning c.args.calendar.now in
-    let h = c.in-Some.g in
     let p = c.plan_gate.ensures in
     ⊎_elim
-    (λ lt. done_more L C c.args.levels.now c.args.planned.now c.args.moment.tick a c.args.gates.now.words l.from l.gates.words l.planned (g.C.Calendar.meaning l.calendar) (omega (arith, e, net.table)) l.invariant
-    h c.in-Some.ensures c.set.new.self.words c.set.ensures (omega (arith, e, lt)) (p.long lt) c.plan_gate.new.planned (g.C.Calendar.meaning c.plan_gate.new.calendar) (p.planned lt) (p.calendar lt))
-    (λ ge. done_past L C c.args.levels.now c.args.planned.now c.args.moment.tick a c.args.gates.now.words l.from l.gates.words l.planned (g.C.Calendar.meaning l.calendar) (omega (arith, e, net.table)) l.invariant
-    h c.in-Some.ensures c.set.new.self.words c.set.ensures (omega (arith, e, ge)) c.plan_gate.new.planned (g.C.Calendar.meaning c.plan_gate.new.calendar) (p.past ge) (p.still ge))
-    (cases_lt h net.head.gates)
+    (λ lt. done_more L C c.args.levels.now c.args.planned.now c.args.moment.tick a c.args.gates.now.words (omega (arith, e, net.table)) l.gates.words l.planned (g.C.Calendar.meaning l.calendar) l.invariant
+    c.in-Some.g c.in-Some.ensures c.set.new.self.words c.set.ensures (omega (arith, e, lt)) p.long c.plan_gate.new.planned (g.C.Calendar.meaning c.plan_gate.new.calendar) (p.planned lt) (p.calendar lt))
+    (λ ge. done_past L C c.args.levels.now c.args.planned.now c.args.moment.tick a c.args.gates.now.words (omega (arith, e, net.table)) l.gates.words l.planned (g.C.Calendar.meaning l.calendar) l.invariant
+    c.in-Some.g c.in-Some.ensures c.set.new.self.words c.set.ensures (omega (arith, e, ge)) c.plan_gate.new.planned (g.C.Calendar.meaning c.plan_gate.new.calendar) (p.past ge) (p.still ge))
+    (cases_lt c.in-Some.g net.head.gates)
 
 pub loop-g-smaller : goal.loop-g-smaller
-loop-g-smaller g c =
-    let l = c.loop-g in
-    let first = c.in-Some.ensures in
-    let ahead = swept_from c.args.gates.now.words l.from l.gates.words l.invariant.swept c.in-Some.g first in
-    omega (arith, ahead, first.0)
+loop-g-smaller g c = low_nearer c.loop-g.gates.words c.in-Some.g c.in-Some.ensures c.set.new.self.words c.set.ensures
 
 pub returns : goal.returns
 returns g c =
@@ -42,9 +39,10 @@ returns g c =
     let C = contents net in
     let e = gates-count net in
     let a = g.C.Calendar.meaning c.args.calendar.now in
-    let all = done_all L C c.args.levels.now c.args.planned.now c.args.moment.tick a c.args.gates.now.words l.from l.gates.words l.planned (g.C.Calendar.meaning l.calendar) (omega (arith, e, net.table)) l.invariant c.in_default.ensures in
+    let all = done_all L C c.args.levels.now c.args.planned.now c.args.moment.tick a c.args.gates.now.words (omega (arith, e, net.table)) l.gates.words l.planned (g.C.Calendar.meaning l.calendar) l.invariant c.in_default.ensures in
     record {
       long = l.invariant.long;
       planned = λ idle h lt. (all idle).1 h (omega (arith, e));
+      rest = λ h le. l.invariant.past h (omega (arith, e));
       calendar = λ idle. (all idle).0 ∙ ap (λ k. plans L C c.args.levels.now c.args.planned.now c.args.moment.tick k a) e;
     }

@@ -1,29 +1,32 @@
+use Rattle.std.proofs.Common.{ap, ◌∙◌, arith}
 use Rattle.netlist.specs.Looked.{contents}
-use Rattle.fanout.specs.Seek.{key_of}
-use Rattle.fanout.proofs.Chains.{goes_on}
-use Rattle.fanout.proofs.Readers.{marks_none, marks_more, marks_all}
+use Rattle.netlist.proofs.Contents.{gate_count as gates-count}
+use Rattle.fanout.specs.Seek.{gates_at}
+use Rattle.fanout.specs.Left.{left}
+use Rattle.fanout.proofs.Readers.{marks_none, marks_more, marks_all, in_chain}
 use Rattle.fanout.proofs.settle.mark_readers.Goals as goal
 
 pub loop-g-init : goal.loop-g-init
-loop-g-init c =
-    let net = c.args.wiring.now.net in
-    marks_none (key_of (contents net) c.args.pin) c.args.n net.head.gates c.args.gates.now.words net.table _ c.head-g.ensures
+loop-g-init c = (
+  tt,
+  tt,
+  marks_none (gates_at (contents c.args.wiring.now.net) c.args.pin c.args.n) c.args.gates.now.words (left c.into_iter-g-iterator.result) (ap left c.into_iter-g-iterator.ensures.into_iter_gives ∙ c.gates_at-g-items.ensures),
+)
 
 pub loop-g-preserved : goal.loop-g-preserved
-loop-g-preserved c =
-    let net = c.args.wiring.now.net in
-    marks_more (key_of (contents net) c.args.pin) c.args.n net.head.gates c.args.gates.now.words net.table c.loop-g.gates.words c.set.new.self.words c.loop-g.g _ c.loop-g-test.true c.next-g.ensures c.set.ensures c.loop-g.invariant
-
-pub loop-g-smaller : goal.loop-g-smaller
-loop-g-smaller c =
-    let net = c.args.wiring.now.net in
-    goes_on (key_of (contents net) c.args.pin) c.loop-g.g net.head.gates c.next-g.result net.table (c.loop-g.invariant.inside c.loop-g-test.true).0 c.next-g.ensures
+loop-g-preserved c = (
+  tt,
+  tt,
+  marks_more (gates_at (contents c.args.wiring.now.net) c.args.pin c.args.n) c.args.gates.now.words c.loop-g.gates.words c.set.new.self.words (left c.loop-g.g-iterator) (left c.next.new.self)
+      c.in-Some.g c.in-Some.ensures.steps c.set.ensures c.loop-g.invariant.2,
+)
 
 pub returns : goal.returns
 returns c =
     let net = c.args.wiring.now.net in
-    let inv = c.loop-g.invariant in
+    let marks = c.loop-g.invariant.2 in
     record {
-      kept = inv.kept;
-      readers = marks_all (key_of (contents net) c.args.pin) c.args.n net.head.gates c.args.gates.now.words c.loop-g.gates.words c.loop-g.g c.loop-g-test.false inv;
+      kept = marks.kept;
+      readers = λ h lt e. marks_all (gates_at (contents net) c.args.pin c.args.n) c.args.gates.now.words c.loop-g.gates.words (left c.loop-g.g-iterator) c.in-None.ensures.steps.0 marks h
+          (omega (arith, net.table)) (in_chain (contents net) c.args.pin c.args.n h (omega (arith, gates-count net)) e);
     }

@@ -1,10 +1,14 @@
-use Rattle.std.proofs.Common.{◌-◌}
+use Rattle.std.proofs.Common.{◌≡◌, map}
 use Rattle.netlist.specs.Looked.{contents}
-use Rattle.fanout.proofs.Drivers.{Sofar}
+use Rattle.signal.specs.Signal.{resolved}
+use Rattle.tick.specs.Settled.{drivers_of}
+use Rattle.fanout.specs.Left.{left}
+use Rattle.fanout.proofs.Drivers.{ended, drive}
 use Rattle.fanout.proofs.settle.resolve_net.Given as goal
 
 abbrev pub invariant-loop-g : goal.invariant-loop-g
-invariant-loop-g g l = Sofar g.F.Family.logic (contents l.wiring.net) l.ports l.drives l.n l.g l.some l.v
-
-abbrev pub decreases-loop-g : goal.decreases-loop-g
-decreases-loop-g g l = 1024 - l.g
+invariant-loop-g g l =
+    let L = g.F.Family.logic in
+    let C = contents l.wiring.net in
+    (goal.iterator-loop-g g).can_next l.g-iterator × (goal.iterator-loop-g g).is_finite l.g-iterator
+    × (ended L l.so_far (map (drive L C l.ports l.drives l.n) (left l.g-iterator)) ≡ resolved L (drivers_of L C l.ports l.drives l.n))

@@ -1,7 +1,6 @@
-use Rattle.std.proofs.Common.{arith}
 use Rattle.netlist.specs.Looked.{contents}
-use Rattle.fanout.proofs.Settling.{settles_none, settles_more, settles_all}
-use Rattle.fanout.proofs.Sweeps.{swept_from}
+use Rattle.fanout.proofs.Settling.{settles_none, settles_more}
+use Rattle.fanout.proofs.Sweeps.{low_nearer}
 use Rattle.fanout.proofs.settle.settle_touched.Goals as goal
 
 pub loop-n-init : goal.loop-n-init
@@ -11,23 +10,18 @@ pub loop-n-preserved : goal.loop-n-preserved
 loop-n-preserved g c =
     let l = c.loop-n in
     settles_more g.F.Family.logic (contents c.args.wiring.now.net) c.args.ports.now c.args.drives.now c.args.levels.now c.args.nets.now.words c.args.wiring.now.net.head.gates
-    l.from l.nets.words l.levels l.gates.words l.invariant c.settle_net.ensures.long c.in-Some.n c.in-Some.ensures c.set.new.self.words c.set.ensures
+    l.nets.words l.levels l.gates.words l.invariant c.settle_net.ensures.long c.in-Some.n c.in-Some.ensures c.set.new.self.words c.set.ensures
     c.settle_net.new.levels c.settle_net.new.gates.words c.settle_net.ensures.levels c.settle_net.ensures.kept c.settle_net.ensures.readers
 
 pub loop-n-smaller : goal.loop-n-smaller
-loop-n-smaller g c =
-    let l = c.loop-n in
-    let first = c.in-Some.ensures in
-    let ahead = swept_from c.args.nets.now.words l.from l.nets.words l.invariant.swept c.in-Some.n first in
-    omega (arith, ahead, first.0)
+loop-n-smaller g c = low_nearer c.loop-n.nets.words c.in-Some.n c.in-Some.ensures c.set.new.self.words c.set.ensures
 
 pub returns : goal.returns
 returns g c =
     let l = c.loop-n in
     record {
       long = l.invariant.long;
-      resolves = settles_all g.F.Family.logic (contents c.args.wiring.now.net) c.args.ports.now c.args.drives.now c.args.levels.now c.args.nets.now.words c.args.wiring.now.net.head.gates
-          l.from l.nets.words l.levels l.gates.words l.invariant c.in_default.ensures;
+      resolves = λ n lt on. l.invariant.resolves n lt on (c.in_default.ensures n lt);
       others = l.invariant.others;
       empties = c.in_default.ensures;
       readers = l.invariant.readers;

@@ -21,6 +21,7 @@ returns g c =
       levels = λ s. all_resolved L (contents net) c.args.ports.now c.args.drives.now c.take_touched.new.drives c.take_touched.new.nets.words
           (λ k lt. c.take_touched.ensures.touched k (omega (arith, few, lt))) was levels s.nets settled.resolves settled.others;
       planned = λ s. c.plan_marked.ensures.planned (all_idle L (contents net) was levels planned c.settle_touched.new.gates.words s.gates (λ k lt. settled.readers k (omega (arith, few, lt))));
+      rest = c.plan_marked.ensures.rest;
       calendar = λ s.
           c.plan_marked.ensures.calendar (all_idle L (contents net) was levels planned c.settle_touched.new.gates.words s.gates (λ k lt. settled.readers k (omega (arith, few, lt))))
           ∙ ap (plans L (contents net) levels planned c.args.moment.tick net.head.gates) c.take_touched.ensures.calendar;

@@ -34,7 +34,7 @@ returns g c =
     let y = c.args.second.now in
     let L = g.F.Family.logic in
     let laws = g.met.F.Family.laws in
-    let nets = ap (lowest (λ n. contradicts L (get_or x.levels n L.unset) (get_or y.levels n L.unset)) 0) c.lesser-nets.ensures in
+    let nets = ap (lowest (λ n. contradicts L (get_or x.levels n L.unset) (get_or y.levels n L.unset)) 0) c.min-nets.ensures in
     let answer = compared g.F.Family g.C.Calendar g.D.Calendar x y c.lowest.result c.if-first-second.false c.if-first-eq0.false (c.lowest.ensures ∙ nets) in
     record {
       answer = answer;

@@ -1,33 +1,17 @@
-use Rattle.std.proofs.Common.{◌≡◌, ℕ, ◌-◌, get_or, sym, ap, ◌∙◌, arith}
-use Rattle.std.proofs.lemmas.List.{get_or_default}
-use Rattle.run.specs.Compared.{lowest, contradicts}
-use Rattle.run.proofs.Comparing.{lowest_next, lowest_here}
+use Rattle.std.proofs.Common.{◌≡◌, ℕ, true, false, get_or, arith, rules, tests}
+use Rattle.std.proofs.lemmas.Iterator.{first_from_Range, serves_from_Range}
+use Rattle.run.specs.Compared.{contradicts}
+use Rattle.run.proofs.Comparing.{lowest_is}
 use Rattle.run.proofs.state.compare.lowest.Goals as goal
 
-none_less : (n : ℕ) → n ≡ n - 0
-none_less n = omega arith
+pub find-requires : goal.find-requires
+find-requires g c = record { can = tt; finite = tt; callable = serves_from_Range (λ x q k. search (rules, tests)) (λ x low high. omega (arith, c.requires)) }
 
-pub loop-n-init : goal.loop-n-init
-loop-n-init g c =
+pub returns : goal.returns
+returns g c =
     let L = g.F.Family.logic in
-    ap (lowest (λ n. contradicts L (get_or c.args.first.now n L.unset) (get_or c.args.second.now n L.unset)) 0) (none_less c.args.nets)
-
-pub loop-n-preserved : goal.loop-n-preserved
-loop-n-preserved g c =
-    let L = g.F.Family.logic in
-    let i = c.loop-n.n in
-    let first = get_or_default c.args.first.now i c.index-first-n.result L.unset (omega (arith, c.type_inv.first, c.requires, c.loop-n-test.true)) in
-    let second = get_or_default c.args.second.now i c.index-second-n.result L.unset (omega (arith, c.type_inv.second, c.requires, c.loop-n-test.true)) in
-    c.loop-n.invariant
-    ∙ lowest_next (λ n. contradicts L (get_or c.args.first.now n L.unset) (get_or c.args.second.now n L.unset)) i c.args.nets c.loop-n-test.true
-    ((λ j. contradicts L (sym first j) (sym second j)) ∙ sym c.contradicts.ensures ∙ c.if-contradicts.false)
-
-pub returns-then-contradicts : goal.returns-then-contradicts
-returns-then-contradicts g c =
-    let L = g.F.Family.logic in
-    let i = c.loop-n.n in
-    let first = get_or_default c.args.first.now i c.index-first-n.result L.unset (omega (arith, c.type_inv.first, c.requires, c.loop-n-test.true)) in
-    let second = get_or_default c.args.second.now i c.index-second-n.result L.unset (omega (arith, c.type_inv.second, c.requires, c.loop-n-test.true)) in
-    sym (c.loop-n.invariant
-    ∙ lowest_here (λ n. contradicts L (get_or c.args.first.now n L.unset) (get_or c.args.second.now n L.unset)) i c.args.nets c.loop-n-test.true
-    ((λ j. contradicts L (sym first j) (sym second j)) ∙ sym c.contradicts.ensures ∙ c.if-contradicts.true))
+    let test = λ (n : ℕ). contradicts L (get_or c.args.first.now n L.unset) (get_or c.args.second.now n L.unset) in
+    lowest_is test 0 c.args.nets c.args.nets (omega arith) c.find.result
+    (first_from_Range _ _ _ _ (λ n. test n ≡ true) (λ n. test n ≡ false) c.find.ensures.ran
+    (λ x q k. search (rules, tests))
+    (λ x q k. (search rules, search (rules, tests))))
