@@ -1,10 +1,11 @@
 use calendar::calendar::Calendar;
 use calendar::entry::{CalendarFault, Entry};
+use std::fmt;
 
-// A call of a calendar, as a value.
+// A call of a calendar, as a value. A put has a tick, a gate and a code.
 #[derive(Clone, Copy)]
 pub enum Call {
-    Put(Entry),
+    Put(u32, u16, u16),
     Next,
     Take,
     Turn(u32),
@@ -13,61 +14,57 @@ pub enum Call {
     Capacity,
 }
 
-// What a calendar answers: a number, an entry, or a refusal by number, letter and place.
-#[derive(Clone, Copy)]
+// What a calendar answers.
+#[derive(Clone, Copy, PartialEq)]
 pub enum Answer {
     Done,
     Nothing,
     Number(u32),
     Taken(Entry),
-    Refused(u8, u8, u32),
+    Refused(CalendarFault),
+}
+
+impl From<Result<(), CalendarFault>> for Answer {
+    fn from(answer: Result<(), CalendarFault>) -> Answer {
+        match answer {
+            Ok(_) => Answer::Done,
+            Err(fault) => Answer::Refused(fault),
+        }
+    }
+}
+
+impl From<Option<u32>> for Answer {
+    fn from(tick: Option<u32>) -> Answer {
+        tick.map_or(Answer::Nothing, Answer::Number)
+    }
+}
+
+impl From<Option<Entry>> for Answer {
+    fn from(entry: Option<Entry>) -> Answer {
+        entry.map_or(Answer::Nothing, Answer::Taken)
+    }
+}
+
+impl fmt::Display for Answer {
+    fn fmt<W: fmt::Write>(&self, f: &mut fmt::Formatter<W>) -> fmt::Result {
+        match self {
+            Answer::Done => f.write_str("done"),
+            Answer::Nothing => f.write_str("nothing"),
+            Answer::Number(n) => write!(f, "{n}"),
+            Answer::Taken(Entry { tick, gate, code }) => write!(f, "{tick} {gate} {code}"),
+            Answer::Refused(fault) => write!(f, "no {fault}"),
+        }
+    }
 }
 
 pub fn ask<C: Calendar>(calendar: &mut C, call: Call) -> Answer {
     match call {
-        Call::Put(e) => judged(calendar.put(e.tick, e.gate, e.code)),
-        Call::Next => number(calendar.next()),
-        Call::Take => taken(calendar.take()),
-        Call::Turn(tick) => judged(calendar.turn(tick)),
+        Call::Put(tick, gate, code) => calendar.put(tick, gate, code).into(),
+        Call::Next => calendar.next().into(),
+        Call::Take => calendar.take().into(),
+        Call::Turn(tick) => calendar.turn(tick).into(),
         Call::Now => Answer::Number(calendar.now()),
         Call::Gates => Answer::Number(u32::from(calendar.gates())),
         Call::Capacity => Answer::Number(calendar.capacity()),
-    }
-}
-
-fn judged(r: Result<(), CalendarFault>) -> Answer {
-    match r {
-        Ok(_) => Answer::Done,
-        Err(f) => Answer::Refused(f.number(), f.letter(), f.place),
-    }
-}
-
-pub fn number(r: Option<u32>) -> Answer {
-    match r {
-        Some(n) => Answer::Number(n),
-        None => Answer::Nothing,
-    }
-}
-
-pub fn taken(r: Option<Entry>) -> Answer {
-    match r {
-        Some(e) => Answer::Taken(e),
-        None => Answer::Nothing,
-    }
-}
-
-// One number for each answer.
-pub fn code(a: Answer) -> u64 {
-    match a {
-        Answer::Done => 1 << 62,
-        Answer::Nothing => 1 << 61,
-        Answer::Number(n) => u64::from(n),
-        Answer::Taken(e) => (u64::from(e.tick) << 32)
-            + (u64::from(e.gate) << 16)
-            + u64::from(e.code),
-        Answer::Refused(n, l, place) => (1 << 63)
-            + (u64::from(n) << 48)
-            + (u64::from(l) << 40)
-            + u64::from(place),
     }
 }

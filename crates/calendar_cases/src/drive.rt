@@ -1,56 +1,8 @@
-use crate::call::{Answer, Call, ask, code};
+use crate::call::{Answer, Call};
 use crate::plain::Plain;
-use calendar::calendar::Calendar;
-use calendar::entry::Entry;
+use crate::tally::Tally;
+use cases::random::Random;
 use std::alloc::AllocError;
-
-// How often each answer came, and how often two calendars differed.
-#[derive(Clone, Copy)]
-pub struct Tally {
-    pub done: u32,
-    pub nothing: u32,
-    pub numbers: u32,
-    pub taken: u32,
-    pub refused: [u32; 16],
-    pub most: usize,
-    pub differ: u32,
-}
-
-pub fn no_tally() -> Tally {
-    Tally {
-        done: 0,
-        nothing: 0,
-        numbers: 0,
-        taken: 0,
-        refused: [0; 16],
-        most: 0,
-        differ: 0,
-    }
-}
-
-impl Tally {
-    fn count(&mut self, a: Answer) {
-        match a {
-            Answer::Done => self.done = self.done.wrapping_add(1),
-            Answer::Nothing => self.nothing = self.nothing.wrapping_add(1),
-            Answer::Number(_) => self.numbers = self.numbers.wrapping_add(1),
-            Answer::Taken(_) => self.taken = self.taken.wrapping_add(1),
-            Answer::Refused(n, _, _) => self.count_refused(n as usize),
-        }
-    }
-
-    fn count_refused(&mut self, n: usize) {
-        if n < 16 {
-            self.refused[n] = self.refused[n].wrapping_add(1);
-        }
-    }
-}
-
-pub fn step(x: u64) -> u64 {
-    let a = x ^ (x << 13);
-    let b = a ^ (a >> 7);
-    b ^ (b << 17)
-}
 
 // A call by chance: ticks a little before, in and behind the window, gates a little past the last.
 fn chosen(x: u64, plain: &Plain) -> Call {
@@ -64,61 +16,34 @@ fn chosen(x: u64, plain: &Plain) -> Call {
         3 | 4 => Call::Next,
         5 => Call::Turn(plain.today.wrapping_add(far)),
         6 => Call::Turn(plain.today.wrapping_sub(1)),
-        7 | 8 | 9 | 10 => Call::Turn(soon(plain)),
-        11 | 12 | 13 | 14 | 15 | 16 | 17 => Call::Take,
-        _ => Call::Put(Entry {
-            tick: plain.today.wrapping_add(far),
-            gate,
-            code: ((x >> 32) % 9) as u16,
-        }),
+        7..=10 => Call::Turn(plain.next().unwrap_or(plain.today.wrapping_add(1))),
+        11..=17 => Call::Take,
+        _ => Call::Put(plain.today.wrapping_add(far), gate, ((x >> 32) % 9) as u16),
     }
 }
 
-fn soon(plain: &Plain) -> u32 {
-    match plain.next() {
-        Some(t) => t,
-        None => plain.today.wrapping_add(1),
-    }
+// How many of the answers are not the right one.
+pub fn differing(answers: &[Answer], right: Answer) -> usize {
+    answers.iter().filter(|answer| **answer != right).count()
 }
 
-// The same calls over two calendars and a list, each answer compared.
-pub fn both<A: Calendar, B: Calendar>(
-    a: &mut A,
-    b: &mut B,
-    plain: &mut Plain,
+// Makes the same calls by chance of a plain calendar and of others. The closure asks the others, and says how many of their answers
+// are not the right one.
+pub fn drive<D: FnMut(Call, Answer) -> usize>(
+    mut random: Random,
     rounds: u32,
-) -> Result<Tally, AllocError> {
-    let mut tally = no_tally();
-    let mut x = 88172645463325252u64;
+    plain: &mut Plain,
+    mut others_differ: D,
+) -> Result<Tally, AllocError>
+    requires { D.IsAlwaysCallable others_differ }
+{
+    let mut tally = Tally::default();
     for _ in 0..rounds {
-        x = step(x);
-        let call = chosen(x, plain);
-        let answer = plain.ask(call)?;
-        compare(&mut tally, answer, ask(a, call));
-        compare(&mut tally, answer, ask(b, call));
-        tally.count(answer);
-        tally.most = tally.most.max(plain.entries.len());
+        let call = chosen(random.draw(), plain);
+        let right = plain.ask(call)?;
+        tally.count(right);
+        tally.differ = tally.differ.saturating_add(others_differ(call, right));
+        tally.most = tally.most.max(plain.waits());
     }
     Ok(tally)
-}
-
-// The same over one calendar and a list.
-pub fn one<C: Calendar>(c: &mut C, plain: &mut Plain, rounds: u32) -> Result<Tally, AllocError> {
-    let mut tally = no_tally();
-    let mut x = 362436069362436069u64;
-    for _ in 0..rounds {
-        x = step(x);
-        let call = chosen(x, plain);
-        let answer = plain.ask(call)?;
-        compare(&mut tally, answer, ask(c, call));
-        tally.count(answer);
-        tally.most = tally.most.max(plain.entries.len());
-    }
-    Ok(tally)
-}
-
-pub fn compare(tally: &mut Tally, right: Answer, a: Answer) {
-    if code(a) != code(right) {
-        tally.differ = tally.differ.wrapping_add(1);
-    }
 }

@@ -1,98 +1,90 @@
-ghost use Rattle.std.specs.Prelude.{◌≤◌, length};
+use crate::call::{Answer, Call};
+use calendar::entry::{CalendarFault, Entry, Reason};
+use std::alloc::{AllocError, Global};
+use std::collections::BTreeMap;
 
-use crate::call::{Answer, Call, number, taken};
-use calendar::entry::Entry;
-use std::alloc::AllocError;
-
-// The same calls over a list in order, the plainest way.
+// The same calls over a map in order, the plainest way.
 #[derive(Drop)]
 pub struct Plain {
     pub today: u32,
     pub gates: u16,
-    pub capacity: u32,
-    pub entries: Vec<Entry>,
+    capacity: u32,
+    // the code that waits for a tick and a gate
+    waiting: BTreeMap<(u32, u16), u16>,
 }
 
 impl Plain {
-    pub fn ask(&mut self, call: Call) -> Result<Answer, AllocError> {
-        match call {
-            Call::Put(e) => self.put(e),
-            Call::Next => Ok(number(self.next())),
-            Call::Take => Ok(taken(self.take())),
-            Call::Turn(tick) => Ok(self.turn(tick)),
-            Call::Now => Ok(Answer::Number(self.today)),
-            Call::Gates => Ok(Answer::Number(u32::from(self.gates))),
-            Call::Capacity => Ok(Answer::Number(self.capacity)),
+    pub fn new(heap: Global, gates: u16, capacity: u32) -> Plain {
+        Plain {
+            today: 0,
+            gates,
+            capacity,
+            waiting: BTreeMap::new(heap),
         }
     }
 
-    fn put(&mut self, e: Entry) -> Result<Answer, AllocError> {
-        if e.gate >= self.gates {
-            return Ok(self.refused(11));
+    pub fn ask(&mut self, call: Call) -> Result<Answer, AllocError> {
+        Ok(match call {
+            Call::Put(tick, gate, code) => self.put(tick, gate, code)?.into(),
+            Call::Next => self.next().into(),
+            Call::Take => self.take().into(),
+            Call::Turn(tick) => self.turn(tick).into(),
+            Call::Now => Answer::Number(self.today),
+            Call::Gates => Answer::Number(u32::from(self.gates)),
+            Call::Capacity => Answer::Number(self.capacity),
+        })
+    }
+
+    // How many entries wait.
+    pub fn waits(&self) -> usize {
+        self.waiting.len()
+    }
+
+    // Why a put is refused, if it is.
+    fn refusal(&self, tick: u32, gate: u16) -> Option<Reason> {
+        if gate >= self.gates {
+            return Some(Reason::NoGate);
         }
-        if e.tick <= self.today || e.tick - self.today > 64 {
-            return Ok(self.refused(12));
+        if tick <= self.today || tick - self.today > 64 {
+            return Some(Reason::BadTick);
         }
-        let at = place(&self.entries, e.tick, e.gate);
-        if stands_at(&self.entries, at, e.tick, e.gate) {
-            return Ok(self.refused(13));
+        if self.waiting.contains_key(&(tick, gate)) {
+            return Some(Reason::Twice);
         }
-        if self.entries.len() >= self.capacity as usize {
-            return Ok(self.refused(14));
+        if self.waiting.len() >= self.capacity as usize {
+            return Some(Reason::Full);
         }
-        self.entries.insert(at, e)?;
-        Ok(Answer::Done)
+        None
+    }
+
+    fn put(
+        &mut self,
+        tick: u32,
+        gate: u16,
+        code: u16,
+    ) -> Result<Result<(), CalendarFault>, AllocError> {
+        if let Some(reason) = self.refusal(tick, gate) {
+            return Ok(Err(reason.at(self.today)));
+        }
+        self.waiting.insert((tick, gate), code)?;
+        Ok(Ok(()))
     }
 
     pub fn next(&self) -> Option<u32> {
-        match self.entries.first() {
-            Some(e) => Some(e.tick),
-            None => None,
-        }
+        self.waiting.first_key_value().map(|((tick, _), _)| *tick)
     }
 
     fn take(&mut self) -> Option<Entry> {
-        if self.entries.len() == 0 {
-            return None;
-        }
-        Some(self.entries.remove(0))
+        let ((tick, gate), code) = self.waiting.pop_first()?;
+        Some(Entry { tick, gate, code })
     }
 
-    fn turn(&mut self, tick: u32) -> Answer {
-        if tick < self.today || tick > 16_777_216 || self.waits_before(tick) {
-            return self.refused(15);
+    fn turn(&mut self, tick: u32) -> Result<(), CalendarFault> {
+        let passes = self.next().is_some_and(|first| first < tick);
+        if tick < self.today || tick > 16_777_216 || passes {
+            return Err(Reason::BadTurn.at(self.today));
         }
         self.today = tick;
-        Answer::Done
-    }
-
-    fn waits_before(&self, tick: u32) -> bool {
-        match self.entries.first() {
-            Some(e) => e.tick < tick,
-            None => false,
-        }
-    }
-
-    fn refused(&self, number: u8) -> Answer {
-        Answer::Refused(number, b'c', self.today)
-    }
-}
-
-// How many entries come before a tick and gate.
-fn place(entries: &[Entry], tick: u32, gate: u16) -> usize
-    ensures { result ≤ length entries.now }
-{
-    for (i, e) in entries.iter().enumerate() {
-        if e.tick > tick || (e.tick == tick && e.gate >= gate) {
-            return i;
-        }
-    }
-    entries.len()
-}
-
-fn stands_at(entries: &[Entry], at: usize, tick: u32, gate: u16) -> bool {
-    match entries.get(at) {
-        Some(e) => e.tick == tick && e.gate == gate,
-        None => false,
+        Ok(())
     }
 }

@@ -1,4 +1,5 @@
 // Marsaglia's xorshift with 64 bits of state.
+ghost use Rattle.std.specs.Prelude.{◌≡◌};
 
 #[derive(Drop)]
 pub struct Random {
@@ -6,10 +7,17 @@ pub struct Random {
 }
 
 impl Random {
+    // Draws on from a state; 0 gives 0 for ever.
+    pub fn from_state(state: u64) -> Random
+        ensures { result.state ≡ state }
+    {
+        Random { state }
+    }
+
     // Neighbouring seeds are spread out first, for a state of few bits starts slowly.
     pub fn new(seed: u64) -> Random {
         let state = seed.wrapping_add(1).wrapping_mul(0x9e37_79b9_7f4a_7c15) | 1;
-        let mut random = Random { state };
+        let mut random = Random::from_state(state);
         for _ in 0..4 {
             let _ = random.draw();
         }

@@ -18,7 +18,7 @@ pub enum Step {
 }
 
 // A pulse on the bus, and then the pull-up.
-pub const PULSE: &[Step; 13] = &[
+pub const PULSE: &[Step] = &[
     Step::Wake(1, Level::Low),
     Step::Drive(0, Level::High),
     Step::Advance(6, 240),
@@ -35,7 +35,7 @@ pub const PULSE: &[Step; 13] = &[
 ];
 
 // Every refusal on the inverter, and the order of the checks.
-pub const REFUSALS: &[Step; 18] = &[
+pub const REFUSALS: &[Step] = &[
     Step::Wake(1, Level::High),
     Step::Drive(1, Level::High),
     Step::Wake(0, Level::Wrong),
@@ -57,7 +57,7 @@ pub const REFUSALS: &[Step; 18] = &[
 ];
 
 // The last tick of a run.
-pub const LAST: &[Step; 5] = &[
+pub const LAST: &[Step] = &[
     Step::Advance(16_777_215, 8),
     Step::Advance(2, 8),
     Step::Advance(1, 8),
@@ -66,7 +66,7 @@ pub const LAST: &[Step; 5] = &[
 ];
 
 // What two runs of the inverter do, side by side. The first does not know its port until the end.
-pub const PAIRS: &[(Step, Step); 7] = &[
+pub const PAIRS: &[(Step, Step)] = &[
     (Step::Wake(0, Level::Low), Step::Wake(0, Level::Low)),
     (Step::Read(0), Step::Drive(0, Level::High)),
     (Step::Advance(1, 64), Step::Read(0)),

@@ -1,6 +1,8 @@
+use crate::choice::UnknownName;
 use crate::drawing::{draw_card, draw_mixed, draw_quiet, draw_rings, draw_still};
 use crate::sheet::Sheet;
 use std::alloc::{AllocError, Global};
+use std::fmt;
 
 #[derive(Clone, Copy)]
 pub enum Board {
@@ -11,38 +13,47 @@ pub enum Board {
     Still,
 }
 
-pub const ALL: [Board; 5] = [
-    Board::Card,
-    Board::Rings,
-    Board::Mixed,
-    Board::Quiet,
-    Board::Still,
-];
-
 // More than any board has.
 pub const EVERY_NET: u16 = 1024;
 
-impl Board {
-    pub fn name(self) -> &'static str {
-        match self {
+// The nets that a measured run watches, from net 0 on.
+pub const WATCHED: u16 = 16;
+
+impl TryFrom<&str> for Board {
+    type Error = UnknownName;
+
+    fn try_from(name: &str) -> Result<Board, UnknownName> {
+        match name {
+            "card" => Ok(Board::Card),
+            "rings" => Ok(Board::Rings),
+            "mixed" => Ok(Board::Mixed),
+            "quiet" => Ok(Board::Quiet),
+            "still" => Ok(Board::Still),
+            _ => Err(UnknownName),
+        }
+    }
+}
+
+impl fmt::Display for Board {
+    fn fmt<W: fmt::Write>(&self, f: &mut fmt::Formatter<W>) -> fmt::Result {
+        f.write_str(match self {
             Board::Card => "card",
             Board::Rings => "rings",
             Board::Mixed => "mixed",
             Board::Quiet => "quiet",
             Board::Still => "still",
-        }
+        })
     }
+}
 
-    pub fn of_name(name: &str) -> Option<Board> {
-        match name {
-            "card" => Some(Board::Card),
-            "rings" => Some(Board::Rings),
-            "mixed" => Some(Board::Mixed),
-            "quiet" => Some(Board::Quiet),
-            "still" => Some(Board::Still),
-            _ => None,
-        }
-    }
+impl Board {
+    pub const ALL: [Board; 5] = [
+        Board::Card,
+        Board::Rings,
+        Board::Mixed,
+        Board::Quiet,
+        Board::Still,
+    ];
 
     // The ticks of a measured run.
     pub fn ticks(self) -> u32 {
@@ -63,11 +74,6 @@ impl Board {
             Board::Quiet => 512,
             Board::Still => 1_100,
         }
-    }
-
-    // The nets that a measured run watches, from net 0 on.
-    pub fn watched(self) -> u16 {
-        16
     }
 
     pub fn file(self, heap: Global, watched: u16) -> Result<Vec<u8>, AllocError> {

@@ -1,4 +1,5 @@
 use crate::board::Board;
+use std::error::Error;
 use std::fmt;
 
 // The calendars that a board can be run on.
@@ -8,45 +9,11 @@ pub enum Queue {
     Wheel,
 }
 
-impl Queue {
-    fn name(self) -> &'static str {
-        match self {
-            Queue::Heap => "heap",
-            Queue::Wheel => "wheel",
-        }
-    }
-
-    fn of_name(name: &str) -> Option<Queue> {
-        match name {
-            "heap" => Some(Queue::Heap),
-            "wheel" => Some(Queue::Wheel),
-            _ => None,
-        }
-    }
-}
-
 // The families that a board can be run over.
 #[derive(Clone, Copy)]
 pub enum Values {
     Nine,
     Pull,
-}
-
-impl Values {
-    fn name(self) -> &'static str {
-        match self {
-            Values::Nine => "nine",
-            Values::Pull => "pull",
-        }
-    }
-
-    fn of_name(name: &str) -> Option<Values> {
-        match name {
-            "nine" => Some(Values::Nine),
-            "pull" => Some(Values::Pull),
-            _ => None,
-        }
-    }
 }
 
 // What is run: a board, on a calendar, over a family.
@@ -57,21 +24,97 @@ pub struct Choice {
     pub values: Values,
 }
 
-impl Choice {
-    pub fn of_names(board: &str, queue: &str, values: &str) -> Option<Choice> {
-        Some(Choice {
-            board: Board::of_name(board)?,
-            queue: Queue::of_name(queue)?,
-            values: Values::of_name(values)?,
+// A word that names no board, no calendar or no family.
+#[derive(Clone, Copy, Debug)]
+pub struct UnknownName;
+
+impl fmt::Display for UnknownName {
+    fn fmt<W: fmt::Write>(&self, f: &mut fmt::Formatter<W>) -> fmt::Result {
+        f.write_str(
+            "say: all, or a board (card rings mixed quiet still), heap or wheel, nine or pull",
+        )
+    }
+}
+
+impl Error for UnknownName {}
+
+impl TryFrom<&str> for Queue {
+    type Error = UnknownName;
+
+    fn try_from(name: &str) -> Result<Queue, UnknownName> {
+        match name {
+            "heap" => Ok(Queue::Heap),
+            "wheel" => Ok(Queue::Wheel),
+            _ => Err(UnknownName),
+        }
+    }
+}
+
+impl TryFrom<&str> for Values {
+    type Error = UnknownName;
+
+    fn try_from(name: &str) -> Result<Values, UnknownName> {
+        match name {
+            "nine" => Ok(Values::Nine),
+            "pull" => Ok(Values::Pull),
+            _ => Err(UnknownName),
+        }
+    }
+}
+
+impl fmt::Display for Queue {
+    fn fmt<W: fmt::Write>(&self, f: &mut fmt::Formatter<W>) -> fmt::Result {
+        f.write_str(match self {
+            Queue::Heap => "heap",
+            Queue::Wheel => "wheel",
+        })
+    }
+}
+
+impl fmt::Display for Values {
+    fn fmt<W: fmt::Write>(&self, f: &mut fmt::Formatter<W>) -> fmt::Result {
+        f.write_str(match self {
+            Values::Nine => "nine",
+            Values::Pull => "pull",
         })
     }
 }
 
 impl fmt::Display for Choice {
     fn fmt<W: fmt::Write>(&self, f: &mut fmt::Formatter<W>) -> fmt::Result {
-        let board = self.board.name();
-        let queue = self.queue.name();
-        let values = self.values.name();
+        let Choice {
+            board,
+            queue,
+            values,
+        } = self;
         write!(f, "{board} {queue} {values}")
+    }
+}
+
+impl Choice {
+    pub fn of_names(board: &str, queue: &str, values: &str) -> Result<Choice, UnknownName> {
+        Ok(Choice {
+            board: Board::try_from(board)?,
+            queue: Queue::try_from(queue)?,
+            values: Values::try_from(values)?,
+        })
+    }
+
+    // Visits every board on every calendar over every family.
+    pub fn each<V: FnMut(Choice) -> anyhow::Result<()>>(mut visit: V) -> anyhow::Result<()>
+        requires { V.IsAlwaysCallable visit }
+    {
+        for board in Board::ALL {
+            for queue in [Queue::Heap, Queue::Wheel] {
+                for values in [Values::Nine, Values::Pull] {
+                    visit(Choice {
+                        board,
+                        queue,
+                        values,
+                    })?;
+                }
+            }
+        }
+        Ok(())
     }
 }

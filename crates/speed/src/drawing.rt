@@ -129,13 +129,14 @@ pub fn draw_card(sheet: &mut Sheet) -> Result<(), AllocError> {
     draw_differences(sheet)
 }
 
-// A ring of five inverters, from the net `first` on.
-fn draw_ring(sheet: &mut Sheet, first: u16, delays: [u16; 5]) -> Result<(), AllocError>
-    requires { first < 1020 }
+// A ring of five inverters, from the net `first` on, each with the delay of its net.
+fn draw_ring<D: Fn(u16) -> u16>(sheet: &mut Sheet, first: u16, delay: D) -> Result<(), AllocError>
+    requires room { first < 1020 }
+    requires delays { D.IsAlwaysCallable delay }
 {
-    sheet.add(NOT, first + 4, 0, delays[0])?;
-    for i in 1..5 {
-        sheet.add(NOT, first + i - 1, 0, delays[i as usize])?;
+    sheet.add(NOT, first + 4, 0, delay(first))?;
+    for net in first + 1..first + 5 {
+        sheet.add(NOT, net - 1, 0, delay(net))?;
     }
     Ok(())
 }
@@ -143,16 +144,14 @@ fn draw_ring(sheet: &mut Sheet, first: u16, delays: [u16; 5]) -> Result<(), Allo
 // 204 rings, in each of which one change goes round.
 pub fn draw_rings(sheet: &mut Sheet) -> Result<(), AllocError> {
     for r in 0..204 {
-        draw_ring(sheet, 5 * r, [1; 5])?;
+        draw_ring(sheet, 5 * r, |_| 1)?;
     }
     Ok(())
 }
 
 // A delay from 1 to 64, another for each neighbour.
-fn delay(i: u16) -> u16
-    requires { i < 1024 }
-{
-    7 * i % 64 + 1
+fn delay(i: u16) -> u16 {
+    7 * (i % 64) % 64 + 1
 }
 
 fn mixer(i: u16) -> u8 {
@@ -166,18 +165,7 @@ fn mixer(i: u16) -> u8 {
 // A hundred rings, 250 gates that mix their nets, and 250 that mix those.
 pub fn draw_mixed(sheet: &mut Sheet) -> Result<(), AllocError> {
     for r in 0..100 {
-        let i = 5 * r;
-        draw_ring(
-            sheet,
-            i,
-            [
-                delay(i),
-                delay(i + 1),
-                delay(i + 2),
-                delay(i + 3),
-                delay(i + 4),
-            ],
-        )?;
+        draw_ring(sheet, 5 * r, delay)?;
     }
     for i in 0..250 {
         sheet.add(mixer(i), (37 * i + 11) % 500, (61 * i + 29) % 500, delay(i))?;

@@ -1,7 +1,4 @@
-ghost use Rattle.std.specs.Prelude.{◌≤◌};
-ghost use denote.Memory.{mem};
-
-use crate::board::EVERY_NET;
+use crate::board::{EVERY_NET, WATCHED};
 use crate::choice::{Choice, Queue, Values};
 use anyhow::anyhow;
 use calendar::calendar::Calendar;
@@ -13,6 +10,7 @@ use netlist::place::Netlist;
 use nine_values::nine::NineValues;
 use pull_ranges::pulls::PullRanges;
 use run::state::Run;
+use std::alloc::{AllocError, Global};
 use std::time::Instant;
 use wheel::wheel::Wheel;
 
@@ -31,14 +29,17 @@ const NOT: u8 = 2;
 struct Lap {
     ticks: u32,
     records: u64,
-    micros: u64,
+    micros: u128,
 }
 
-// The codes of a family's strong levels.
-#[derive(Clone, Copy)]
-struct Levels {
-    low: u16,
-    high: u16,
+impl Lap {
+    fn new(micros: u128, (ticks, records): (u32, u64)) -> Lap {
+        Lap {
+            ticks,
+            records,
+            micros,
+        }
+    }
 }
 
 // Advances until as many ticks are complete, and says on long runs how far it is.
@@ -49,14 +50,15 @@ fn advance_to<F: Family, C: Calendar>(
     trace: &mut [u8],
 ) -> anyhow::Result<()> {
     let mut left = ticks;
-    for _ in 0..ticks {
-        if left == 0 {
-            break;
-        }
-        match run.advance(left.min(STRIDE), trace) {
-            Ok((done, _)) => left = left.saturating_sub(done),
+    while left > 0 {
+        let (done, _) = match run.advance(left.min(STRIDE), trace) {
+            Ok(advanced) => advanced,
             Err(_) => return Err(anyhow!("the run refuses to advance")),
+        };
+        if done == 0 {
+            return Err(anyhow!("the trace has no room"));
         }
+        left = left.saturating_sub(done);
         if left % STRIDE == 0 && ticks > STRIDE {
             eprintln!(rt; "  {left} ticks left")?;
         }
@@ -66,119 +68,62 @@ fn advance_to<F: Family, C: Calendar>(
 
 // Every inverter with an odd number starts high and every other gate low, so that a ring of five
 // has one change going round.
-fn starts(net: &Netlist) -> [bool; 1024] {
-    let mut high = [false; 1024];
-    for g in 0..net.head.gates as usize {
-        high[g] = net.gates[g].kind == NOT && g % 2 == 1;
-    }
-    high
+fn starts(heap: Global, net: &Netlist) -> Result<Vec<bool>, AllocError> {
+    (0..1024)
+        .zip(&net.gates[..net.head.gates as usize])
+        .map(|(g, gate)| gate.kind == NOT && g % 2 == 1)
+        .collect(heap)
 }
 
-fn wake_all<F: Family, C: Calendar>(
-    run: &mut Run<F, C>,
-    gates: u16,
-    high: &[bool; 1024],
-    levels: Levels,
-) {
-    for g in 0..gates.min(1024) {
-        let _ = run.wake(
-            g,
-            if high[g as usize] {
-                levels.high
-            } else {
-                levels.low
-            },
-        );
+// Wakes each gate at its strong level: what inverts a pull to the other one.
+fn wake_all<F: Family, C: Calendar>(run: &mut Run<F, C>, high: &[bool]) {
+    for (gate, high) in (0..1024).zip(high) {
+        let pull = if *high { F::pull_down() } else { F::pull_up() };
+        let _ = run.wake(gate, F::code(F::not(pull)));
     }
 }
 
-// Opens a run of the file on the calendar, and advances it. A run is held by value, so that its
-// parts must be of a size that memory has.
-fn run_on<F: Family + Drop, C: Calendar + Drop>(
+// Wakes the gates of a run and advances it, and answers the microseconds that the ticks took.
+fn work<F: Family, C: Calendar>(
     rt: &HostRuntime,
-    file: &[u8],
-    calendar: C,
-    levels: Levels,
+    run: &mut Run<F, C>,
+    high: &[bool],
     ticks: u32,
-) -> anyhow::Result<Lap>
-    requires calendar { (mem C.row).size ≤ 1048576 }
-    requires value { (mem F.Value.row).size ≤ 64 }
-{
+) -> anyhow::Result<u128> {
+    wake_all(run, high);
+    let mut trace = vec![in rt.alloc(); 0; TRACE]?;
+    let start = Instant::now(rt)?;
+    advance_to(rt, run, ticks, trace.as_mut_slice())?;
+    Ok(start.elapsed(rt)?.as_micros())
+}
+
+fn run_choice(rt: &HostRuntime, choice: Choice, file: &[u8], ticks: u32) -> anyhow::Result<Lap> {
     let mut net = Netlist::new();
     if look_over(file, &mut net).is_err() {
         return Err(anyhow!("the board is refused"));
     }
-    let high = starts(&net);
-    let gates = net.head.gates;
-    let mut run: Run<F, C> = Run::open(net, calendar);
-    wake_all(&mut run, gates, &high, levels);
-    let mut trace = vec![in rt.alloc(); 0u8; TRACE]?;
-    let start = Instant::now(rt)?;
-    advance_to(rt, &mut run, ticks, trace.as_mut_slice())?;
-    let micros = start.elapsed(rt)?.as_micros();
-    let (ticks, records) = run.finish();
-    Ok(Lap {
-        ticks,
-        records,
-        micros: micros.min(1_000_000_000_000) as u64,
-    })
-}
-
-fn run_over<C: Calendar + Drop>(
-    rt: &HostRuntime,
-    file: &[u8],
-    calendar: C,
-    values: Values,
-    ticks: u32,
-) -> anyhow::Result<Lap>
-    requires { (mem C.row).size ≤ 1048576 }
-{
-    match values {
-        Values::Nine => run_on::<NineValues, C>(
-            rt,
-            file,
-            calendar,
-            Levels { low: 2, high: 3 },
-            ticks,
-        ),
-        Values::Pull => run_on::<PullRanges, C>(
-            rt,
-            file,
-            calendar,
-            Levels {
-                low: 54,
-                high: 3456,
-            },
-            ticks,
-        ),
-    }
-}
-
-fn run_choice(rt: &HostRuntime, choice: Choice, file: &[u8], ticks: u32) -> anyhow::Result<Lap> {
-    match choice.queue {
-        Queue::Heap => {
-            let mut entries = vec![in rt.alloc(); Entry {
-                tick: 0,
-                gate: 0,
-                code: 0
-            }; ENTRIES]?;
-            run_over(
-                rt,
-                file,
-                Heap::new(entries.as_mut_slice()),
-                choice.values,
-                ticks,
-            )
+    let starts = starts(rt.alloc(), &net)?;
+    let high = starts.as_slice();
+    let mut entries = vec![in rt.alloc(); Entry::BLANK; ENTRIES]?;
+    let mut slots = vec![in rt.alloc(); 0; SLOTS]?;
+    let heap = Heap::new(entries.as_mut_slice());
+    let wheel = Wheel::new(slots.as_mut_slice());
+    match (choice.queue, choice.values) {
+        (Queue::Heap, Values::Nine) => {
+            let mut run: Run<NineValues, Heap> = Run::open(net, heap);
+            Ok(Lap::new(work(rt, &mut run, high, ticks)?, run.finish()))
         }
-        Queue::Wheel => {
-            let mut slots = vec![in rt.alloc(); 0u16; SLOTS]?;
-            run_over(
-                rt,
-                file,
-                Wheel::new(slots.as_mut_slice()),
-                choice.values,
-                ticks,
-            )
+        (Queue::Heap, Values::Pull) => {
+            let mut run: Run<PullRanges, Heap> = Run::open(net, heap);
+            Ok(Lap::new(work(rt, &mut run, high, ticks)?, run.finish()))
+        }
+        (Queue::Wheel, Values::Nine) => {
+            let mut run: Run<NineValues, Wheel> = Run::open(net, wheel);
+            Ok(Lap::new(work(rt, &mut run, high, ticks)?, run.finish()))
+        }
+        (Queue::Wheel, Values::Pull) => {
+            let mut run: Run<PullRanges, Wheel> = Run::open(net, wheel);
+            Ok(Lap::new(work(rt, &mut run, high, ticks)?, run.finish()))
         }
     }
 }
@@ -194,10 +139,10 @@ pub fn count(rt: &HostRuntime, choice: Choice, ticks: u32) -> anyhow::Result<(u3
 pub fn measure(rt: &HostRuntime, choice: Choice) -> anyhow::Result<()> {
     let board = choice.board;
     let (ticks, changes) = count(rt, choice, board.ticks())?;
-    let file = board.file(rt.alloc(), board.watched())?;
+    let file = board.file(rt.alloc(), WATCHED)?;
     let lap = run_choice(rt, choice, file.as_slice(), ticks)?;
     let micros = lap.micros;
-    let rate = changes as u128 * 1_000_000 / micros.max(1) as u128;
+    let rate = changes as u128 * 1_000_000 / micros.max(1);
     println!(rt; "{choice} {ticks} ticks {changes} changes {micros} us {rate} changes/s")?;
     Ok(())
 }

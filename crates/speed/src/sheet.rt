@@ -46,34 +46,24 @@ impl Sheet {
     // The netlist file, with the first nets watched, `watched` of them or all that there are.
     pub fn file(&self, heap: Global, watched: u16) -> Result<Vec<u8>, AllocError> {
         let mut file = Vec::new(heap);
+        let gates = self.gates.len().min(1024) as u16;
         let watches = watched.min(self.free);
-        for b in b"NLB" {
-            file.push(*b)?;
-        }
-        for n in [1, self.free, 0, self.gates.len().min(1024) as u16, watches] {
-            put(&mut file, n)?;
-        }
+        file.extend_from_slice(b"NLB")?;
+        put(&mut file, &[1, self.free, 0, gates, watches])?;
         for gate in &self.gates {
-            put_gate(&mut file, *gate)?;
+            file.push(gate.kind)?;
+            put(&mut file, &[gate.a, gate.b, gate.out, gate.delay])?;
         }
-        for n in 0..watches {
-            put(&mut file, n)?;
+        for net in 0..watches {
+            put(&mut file, &[net])?;
         }
         Ok(file)
     }
 }
 
-fn put(file: &mut Vec<u8>, n: u16) -> Result<(), AllocError> {
-    for b in n.to_be_bytes() {
-        file.push(b)?;
-    }
-    Ok(())
-}
-
-fn put_gate(file: &mut Vec<u8>, gate: Gate) -> Result<(), AllocError> {
-    file.push(gate.kind)?;
-    for n in [gate.a, gate.b, gate.out, gate.delay] {
-        put(file, n)?;
+fn put(file: &mut Vec<u8>, words: &[u16]) -> Result<(), AllocError> {
+    for word in words {
+        file.extend_from_slice(&word.to_be_bytes())?;
     }
     Ok(())
 }

@@ -1,55 +1,43 @@
 use logic::named::Named;
 use logic::values::same;
 
-#[derive(Clone, Copy)]
-pub enum Operation {
-    And,
-    Or,
-    Xor,
-    Resolve,
+// Whether there is a value, and its name is the published one.
+fn is_named<F: Named>(value: Option<F::Value>, published: u8) -> bool {
+    value
+        .zip(F::of_name(&[published]))
+        .is_some_and(|(a, b)| same::<F>(a, b))
 }
 
-fn operated<F: Named>(operation: Operation, a: F::Value, b: F::Value) -> F::Value {
-    match operation {
-        Operation::And => F::and(a, b),
-        Operation::Or => F::or(a, b),
-        Operation::Xor => F::xor(a, b),
-        Operation::Resolve => F::resolve(a, b),
-    }
+// How many entries of a published table name the value that belongs at their place.
+fn agreeing<F: Named, V: Fn(u16) -> Option<F::Value>>(table: &[u8], value_at: V) -> usize
+    requires { V.IsAlwaysCallable value_at }
+{
+    (0u16..1024)
+        .zip(table)
+        .filter(|(place, published)| is_named::<F>(value_at(*place), **published))
+        .count()
 }
 
-// Whether the operation on the values of two codes is the value with the published name.
-fn entry_agrees<F: Named>(operation: Operation, row: u16, column: u16, published: &[u8]) -> bool {
-    match (F::of_code(row), F::of_code(column), F::of_name(published)) {
-        (Some(a), Some(b), Some(v)) => same::<F>(operated::<F>(operation, a, b), v),
-        _ => false,
-    }
+// The entries of a table of one operand that agree; its places are the codes.
+pub(crate) fn agreeing_at_codes<F: Named, O: Fn(F::Value) -> F::Value>(
+    table: &[u8; 9],
+    operation: O,
+) -> usize
+    requires { O.IsAlwaysCallable operation }
+{
+    agreeing::<F, _>(table, |place| F::of_code(place).map(|a| operation(a)))
 }
 
-// How many entries of a published table agree.
-pub fn agreeing<F: Named>(operation: Operation, table: &[u8; 81]) -> u16 {
-    let mut count = 0;
-    for i in 0..81 {
-        if entry_agrees::<F>(operation, i / 9, i % 9, &table[i as usize..i as usize + 1]) {
-            count += 1;
-        }
-    }
-    count
-}
-
-fn not_agrees<F: Named>(code: u16, published: &[u8]) -> bool {
-    match (F::of_code(code), F::of_name(published)) {
-        (Some(a), Some(v)) => same::<F>(F::not(a), v),
-        _ => false,
-    }
-}
-
-pub fn agreeing_not<F: Named>(table: &[u8; 9]) -> u16 {
-    let mut count = 0;
-    for i in 0..9 {
-        if not_agrees::<F>(i, &table[i as usize..i as usize + 1]) {
-            count += 1;
-        }
-    }
-    count
+// The entries of a table of two operands that agree; its rows and columns are the codes.
+pub(crate) fn agreeing_at_pairs<F: Named, O: Fn(F::Value, F::Value) -> F::Value>(
+    table: &[u8; 81],
+    operation: O,
+) -> usize
+    requires { O.IsAlwaysCallable operation }
+{
+    agreeing::<F, _>(table, |place| {
+        let row = F::of_code(place / 9);
+        let column = F::of_code(place % 9);
+        row.zip(column).map(|(a, b)| operation(a, b))
+    })
 }
