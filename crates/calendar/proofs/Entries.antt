@@ -1,6 +1,6 @@
 -- Entries by tick, gate and code are in a strict order. Assumes nothing.
 use Rattle.std.proofs.Common.{◌≡◌, ℕ, Bool, true, false, not, ◌&&◌, ◌||◌, eqb, ltb, ap, ◌∙◌, arith, rules}
-use Rattle.std.specs.Ordering.{partial_lt, partial_ge}
+use Rattle.std.specs.Ordering.{partial_ge}
 use Rattle.std.proofs.lemmas.Bool.Decides.{nat_tests}
 use Rattle.calendar.specs.Order.{Strict}
 use Rattle.calendar.specs.Agenda.{before}
@@ -27,8 +27,5 @@ strict = record {
 }
 
 -- the order that entries are compared by in the program
-pub lt_before : (a b : Entry) (t : Bool) → t ≡ partial_lt partial_cmp-value.it a b → t ≡ before a b
-lt_before a b t h = h ∙ search rules
-
 pub ge_before : (a b : Entry) (t : Bool) → t ≡ partial_ge partial_cmp-value.it a b → not t ≡ before a b
 ge_before a b t h = ap not h ∙ search rules

@@ -75,15 +75,6 @@ module _ {X : Type 0} (lt : X → X → Bool) where
           (cases_eq k j),
     )
 
-    pub only_child : (xs : List X) (j c n : ℕ) → c ≡ j * 2 + 1 → n ≤ c + 1 → Least lt xs j c n
-    only_child xs j c n e l = λ k d a b f. itself xs c k d (omega arith)
-
-    pub left_child : (xs : List X) (j c n : ℕ) → c ≡ j * 2 + 1 → ((d : X) → lt (get_or xs (c + 1) d) (get_or xs c d) ≡ false) → Least lt xs j c n
-    left_child xs j c n e t = λ k d a b f. ⊎_elim (itself xs c k d) (λ u. let same : k ≡ c + 1 = omega arith in by _ _ _ _ (ap (λ m. get_or xs m d) same) refl (t d)) (cases_eq k c)
-
-    pub right_child : (xs : List X) (j c n : ℕ) → c ≡ j * 2 + 1 → ((d : X) → lt (get_or xs (c + 1) d) (get_or xs c d) ≡ true) → Least lt xs j (c + 1) n
-    right_child xs j c n e t = λ k d a b f. ⊎_elim (itself xs (c + 1) k d) (λ u. let same : k ≡ c = omega arith in by _ _ _ _ (ap (λ m. get_or xs m d) same) refl (o.one_way _ _ (t d))) (cases_eq k (c + 1))
-
     pub sink_rests : (xs : List X) (j c n : ℕ) → ((d : X) → lt (get_or xs c d) (get_or xs j d) ≡ false) → Least lt xs j c n → Sinking xs j n → Heaped lt xs 0 n
     sink_rests xs j c n t g h = λ k d f. ⊎_elim
         (λ e. by _ _ _ _ refl (ap (λ m. get_or xs m d) e) (o.chain _ _ _ (g k d (omega arith) (omega arith) f.1) (t d)))

@@ -12,9 +12,9 @@ use Rattle.heap.specs.Heaps.{Heaped}
 use Rattle.heap.specs.Piles.{Content}
 use Rattle.heap.proofs.Heaps.{Swapped, tested, top}
 use Rattle.calendar.proofs.Orders.{in_order_shuffled, first_in_order, swaps, length_in_order}
-use Rattle.calendar.proofs.Entries.{strict, lt_before, ge_before}
+use Rattle.calendar.proofs.Entries.{strict, ge_before}
 use Rattle.calendar.specs.contracts.entry.EntryPartialOrd.TheImpl.{partial_cmp-value}
-use Rattle.std.specs.Ordering.{partial_lt, partial_ge}
+use Rattle.std.specs.Ordering.{partial_ge}
 use Rattle.calendar.specs.Agenda.{before, entry, first}
 use Rattle.calendar.specs.declared.entry.Entry.{Entry}
 
@@ -139,6 +139,3 @@ room_left xs n p h is room =
 -- tests of two entries of a heap, as the program makes them
 pub tested_ge : (xs : List Entry) (i j : ℕ) (t : Bool) → i < length xs → j < length xs → t ≡ partial_ge partial_cmp-value.it (get_or xs i (entry 0 0 0)) (get_or xs j (entry 0 0 0)) → (d : Entry) → before (get_or xs i d) (get_or xs j d) ≡ not t
 tested_ge xs i j t h k is = tested before xs i j (entry 0 0 0) (not t) h k (ge_before (get_or xs i (entry 0 0 0)) (get_or xs j (entry 0 0 0)) t is)
-
-pub tested_lt : (xs : List Entry) (i j : ℕ) (t : Bool) → i < length xs → j < length xs → t ≡ partial_lt partial_cmp-value.it (get_or xs i (entry 0 0 0)) (get_or xs j (entry 0 0 0)) → (d : Entry) → before (get_or xs i d) (get_or xs j d) ≡ t
-tested_lt xs i j t h k is = tested before xs i j (entry 0 0 0) t h k (lt_before (get_or xs i (entry 0 0 0)) (get_or xs j (entry 0 0 0)) t is)

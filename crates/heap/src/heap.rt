@@ -2,9 +2,9 @@ ghost use Rattle.std.specs.Prelude.{◌≡◌, ℕ, ◌<◌, ◌≤◌, min, tru
 ghost use Rattle.std.proofs.Common.{lit≤};
 ghost use Rattle.calendar.specs.Agenda.{Agenda, new_agenda, sound};
 ghost use Rattle.heap.specs.Heaps.{heap_agenda};
-ghost use Rattle.heap.specs.Marks.{Marked};
+ghost use Rattle.heap.specs.Marks.{marked, Marked};
 
-use crate::marks::{MARKS, Marks};
+use crate::marks::Marks;
 use crate::pile::Pile;
 use calendar::calendar::Calendar;
 use calendar::checks::{check_slot, check_turn};
@@ -20,8 +20,7 @@ pub struct Heap<'a> {
     today: u32,
     ghost small: { pile.room ≤ 65536 },
     ghost sound: { sound (heap_agenda today pile) ≡ true },
-    ghost sized: { length marks.marks ≡ 66560 },
-    ghost marked: { Marked marks.marks 1024 today pile.waiting },
+    ghost marked: { Marked (marked marks.rows) 1024 today pile.waiting },
 }
 
 impl<'a> Heap<'a> {
@@ -33,7 +32,7 @@ impl<'a> Heap<'a> {
         Heap {
             pile: Pile::new(&mut buffer[..n]),
             marks: Marks {
-                marks: [false; MARKS],
+                rows: [[false; 1024]; 65],
             },
             today: 0,
         }

@@ -1,26 +1,25 @@
-ghost use Rattle.std.specs.Prelude.{◌≡◌, ◌<◌, false, slice_index_or, slice_set};
-ghost use Rattle.calendar.specs.Table.{slot};
+ghost use Rattle.std.specs.Prelude.{◌≡◌, ℕ, ◌%◌, ◌<◌, ◌&&◌, if◌then◌else◌, ◌==◌, nat_eq};
+ghost use Rattle.heap.specs.Marks.{marked};
 
-pub const MARKS: usize = 66560;
-
-// A mark for each of 65 ticks and 1,024 gates.
+// A row for each tick that can wait, in it a mark for each gate.
 #[derive(Drop)]
 pub struct Marks {
-    pub marks: [bool; MARKS],
+    pub rows: [[bool; 1024]; 65],
 }
 
 impl Marks {
     pub(crate) fn stands(&self, tick: u32, gate: u16) -> bool
         requires { gate < 1024 }
-        ensures { result ≡ slice_index_or self.now.marks (slot 1024 tick gate) false }
+        ensures { result ≡ marked self.now.rows (tick % 65) gate }
     {
-        self.marks[(tick % 65) as usize * 1024 + gate as usize]
+        self.rows[(tick % 65) as usize][gate as usize]
     }
 
     pub(crate) fn mark(&mut self, tick: u32, gate: u16, on: bool)
         requires { gate < 1024 }
-        ensures { self.new.marks ≡ slice_set self.old.marks (slot 1024 tick gate) on }
+        ensures { (r g : ℕ) → marked self.new.rows r g ≡ (if nat_eq r (tick % 65) && g == gate then on else marked self.old.rows r g) }
     {
-        self.marks[(tick % 65) as usize * 1024 + gate as usize] = on;
+        let row = &mut self.rows[(tick % 65) as usize];
+        row[gate as usize] = on;
     }
 }

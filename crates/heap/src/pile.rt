@@ -8,6 +8,7 @@ use calendar::entry::Entry;
 use std::marker::Model;
 
 // The first `len` of the entries are a heap.
+// Kept as it is: the entries stand in a buffer that the caller lends, since nothing is allocated while a run advances.
 #[derive(Drop)]
 pub struct Pile<'a> {
     entries: &'a mut [Entry],

@@ -6,6 +6,7 @@ ghost use Rattle.calendar.specs.Agenda.{before};
 use calendar::entry::Entry;
 
 // The last value rises to its place in the heap that the others are.
+// Kept as it is: a heap is a lent slice of entries, sifted in place by a place that moves by halves, which no iterator does.
 pub(crate) fn sift_up(heap: &mut [Entry])
     requires some { 0 < length heap.old }
     requires heaped { Heaped before heap.old 0 (length heap.old - 1) }
@@ -24,6 +25,7 @@ pub(crate) fn sift_up(heap: &mut [Entry])
 }
 
 // The first value sinks to its place in the heap that the others are.
+// Kept as it is: a heap is a lent slice of entries, sifted in place by a place that moves by doubles, which no iterator does.
 pub(crate) fn sift_down(heap: &mut [Entry])
     requires heaped { Heaped before heap.old 2 (length heap.old) }
     ensures shuffled { IsPermutation heap.old heap.new }
@@ -48,11 +50,9 @@ fn first_child(heap: &[Entry], at: usize) -> usize
 {
     let left = 2 * at + 1;
     let right = left + 1;
-    if right == heap.len() {
-        return left;
+    if right < heap.len() && heap[right] < heap[left] {
+        right
+    } else {
+        left
     }
-    if heap[right] < heap[left] {
-        return right;
-    }
-    left
 }

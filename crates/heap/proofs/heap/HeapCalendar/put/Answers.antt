@@ -1,8 +1,7 @@
-use Rattle.std.proofs.Common.{◌≡◌, true, length, set, sym, ap, refl, ◌∙◌, subst, arith, length-set}
+use Rattle.std.proofs.Common.{◌≡◌, length, sym, ap, refl, ◌∙◌, subst, arith}
 use Rattle.std.proofs.lemmas.Bool.{leb-false}
 use Rattle.std.proofs.lemmas.Result.{err_from_is_err_and}
-use Rattle.calendar.specs.Table.{slot}
-use Rattle.heap.specs.Marks.{Marked}
+use Rattle.heap.specs.Marks.{marked, Marked}
 use Rattle.heap.proofs.Marking.{marked_put}
 use Rattle.calendar.specs.Agenda.{before, entry, with_waiting, sound}
 use Rattle.heap.specs.Heaps.{heap_agenda}
@@ -25,9 +24,5 @@ invariant_of-self c =
     let told = c.push.ensures in
     let stays = sound_placed a h.sound e slot_ok.0 slot_ok.1 slot_ok.2 (sym (h.marked c.args.tick c.args.gate (omega arith, omega arith, slot_ok.0)) ∙ sym c.if-stands.ensures) (leb-false a.capacity (length a.waiting) (sym c.if-is_full.ensures)) in
     let is : heap_agenda h.today c.push.new.self ≡ with_waiting a (placed before e a.waiting) = (λ i. record { today = h.today; gates = 1024; capacity = told.room i; waiting = told.items i }) in
-    let m = h.marks.marks in
-    let long-m = h.sized in
-    let marked = marked_put 1024 m (omega arith) h.today a.waiting e (omega arith) (omega arith) slot_ok.0 h.marked in
-    let sized : length c.mark.new.self.marks ≡ 66560 = ap length c.mark.ensures ∙ length-set m (slot 1024 c.args.tick c.args.gate) true ∙ h.sized in
-    let marks : Marked c.mark.new.self.marks 1024 h.today c.push.new.self.waiting = subst (λ z. Marked z 1024 h.today c.push.new.self.waiting) (sym c.mark.ensures) (subst (λ z. Marked (set m (slot 1024 c.args.tick c.args.gate) true) 1024 h.today z) (sym told.items) marked) in
-    record { small = omega arith; sound = ap sound is ∙ stays; sized = sized; marked = marks }
+    let held = marked_put 1024 (marked h.marks.rows) h.today (marked c.mark.new.self.rows) a.waiting e (omega arith) (omega arith) c.mark.ensures h.marked in
+    record { small = omega arith; sound = ap sound is ∙ stays; marked = subst (λ z. Marked (marked c.mark.new.self.rows) 1024 h.today z) (sym told.items) held }

@@ -1,6 +1,7 @@
-use Rattle.std.proofs.Common.{sym, refl, arith}
+use Rattle.std.proofs.Common.{sym, refl}
 use Rattle.std.proofs.lemmas.Result.{err_from_is_err_and}
 use Rattle.heap.specs.Heaps.{heap_agenda}
+use Rattle.heap.specs.Marks.{marked}
 use Rattle.calendar.proofs.Faults.{turn_refused_keeps, turn_allowed}
 use Rattle.calendar.proofs.Sound.{sound_turned, sound_rising, sound_due}
 use Rattle.heap.proofs.Marking.{marked_turned}
@@ -28,5 +29,5 @@ invariant_of-self c =
     let h = c.args.self.now in
     let a = heap_agenda h.today h.pile in
     let ok = turn_allowed a c.args.tick _ (sym (c.in_ok-check_turn.ensures a refl (sym c.next.ensures))) in
-    let marked = marked_turned 1024 1024 h.today c.args.tick h.marks.marks a.waiting (let z = h.sized in omega arith) ok.0 (sound_rising a h.sound) (sound_due a h.sound) ok.2 h.marked in
-    record { small = h.small; sound = sound_turned a c.args.tick h.sound ok.0 ok.2; sized = h.sized; marked = marked }
+    let marked = marked_turned 1024 1024 h.today c.args.tick (marked h.marks.rows) a.waiting ok.0 (sound_rising a h.sound) (sound_due a h.sound) ok.2 h.marked in
+    record { small = h.small; sound = sound_turned a c.args.tick h.sound ok.0 ok.2; marked = marked }
