@@ -112,18 +112,3 @@ fn say_fault(
     let place = fault.place();
     println!(rt; "{wide} {long}: {count} bytes, {line} {number} {letter} {place}")
 }
-
-// Works a script on a new run of a board. The run is held by value, so that its parts must be of a size that memory has.
-fn serve<F: Named + Drop, C: Calendar + Drop, R: Read, W: Write>(
-    board: Netlist,
-    calendar: C,
-    input: &mut R,
-    sink: &mut W,
-    heap: Global,
-) -> io::Result<()>
-    requires calendar { (mem C.row).size ≤ 1048576 }
-    requires value { (mem F.Value.row).size ≤ 64 }
-{
-    let mut run: Run<F, C> = Run::open(board, calendar);
-    work_script(&mut run, input, sink, heap)
-}

@@ -1,4 +1,4 @@
-use Rattle.std.proofs.Common.{◌≡◌, ◌+◌, ◌/◌, ◌<◌, [], length, get_or, sym, refl, ap, ◌∙◌, subst, add-one, arith}
+use Rattle.std.proofs.Common.{◌/◌, ◌<◌, [], length, get_or, sym, refl, ap, ◌∙◌, subst, add-one, arith}
 use Rattle.script_text.specs.Laid.{Lays}
 use Rattle.script_text.specs.Texts.{records_text, record_at}
 use Rattle.script_text.proofs.Over.{lays_none, lays_then}
