@@ -1,5 +1,6 @@
 // A case starts from a good file, which its changes damage.
 use netlist::fault::NetlistFault;
+use netlist::gate::GateKind;
 use netlist::inventory::Inventory;
 use std::alloc::{AllocError, Global};
 
@@ -59,11 +60,11 @@ pub(crate) struct Case {
 // and drives the g-th net behind the ports, or the last.
 fn add_gate(file: &mut Vec<u8>, board: Counts, g: u16) -> Result<(), AllocError> {
     let last = board.nets.saturating_sub(1);
-    let kind = (1 + g % 11) as u8;
-    let a = if kind < 10 { last } else { 0 };
-    let b = if kind > 2 && kind < 10 { last } else { 0 };
+    let kind = GateKind::try_from((1 + g % 11) as u8).unwrap_or(GateKind::Buffer);
+    let a = if kind.reads_a() { last } else { 0 };
+    let b = if kind.reads_b() { last } else { 0 };
     let out = board.ports.saturating_add(g).min(last);
-    file.push(kind)?;
+    file.push(kind.into())?;
     add_words(file, &[a, b, out, 1 + g % 64])
 }
 

@@ -19,6 +19,7 @@ use run::state::Run;
 use std::io;
 use wheel::wheel::Wheel;
 
+// Kept as it is: one generic function that owns a run would require a size of its calendar and of its values, so each run is opened here.
 fn buses(rt: &HostRuntime) -> io::Result<()> {
     let mut entries = [Entry::BLANK; 70];
     let mut slots = [0; 260];

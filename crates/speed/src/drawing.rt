@@ -1,25 +1,8 @@
 ghost use Rattle.std.specs.Prelude.{◌≡◌, ◌+◌, ◌*◌, ◌<◌};
 
 use crate::sheet::Sheet;
+use netlist::gate::GateKind;
 use std::alloc::AllocError;
-
-const BUFFER: u8 = 1;
-
-const NOT: u8 = 2;
-
-const AND: u8 = 3;
-
-const OR: u8 = 4;
-
-const XOR: u8 = 5;
-
-const XNOR: u8 = 8;
-
-const TRI: u8 = 9;
-
-const PULL_UP: u8 = 10;
-
-const PULL_DOWN: u8 = 11;
 
 const CLOCK: u16 = 0;
 
@@ -55,11 +38,11 @@ fn draw_latch(
     requires { first < 1000 }
 {
     let kept = first + 4;
-    sheet.add(AND, data, open, 1)?;
-    sheet.add(AND, kept, shut, 1)?;
-    sheet.add(AND, data, kept, 1)?;
-    sheet.add(OR, first, first + 1, 1)?;
-    sheet.add(OR, first + 3, first + 2, 1)?;
+    sheet.add(GateKind::And, data, open, 1)?;
+    sheet.add(GateKind::And, kept, shut, 1)?;
+    sheet.add(GateKind::And, data, kept, 1)?;
+    sheet.add(GateKind::Or, first, first + 1, 1)?;
+    sheet.add(GateKind::Or, first + 3, first + 2, 1)?;
     Ok(())
 }
 
@@ -87,22 +70,22 @@ fn draw_registers(sheet: &mut Sheet) -> Result<(), AllocError> {
 
 // Each bit of the counter with its carry, then what the shift register takes in.
 fn draw_counter(sheet: &mut Sheet) -> Result<(), AllocError> {
-    sheet.add(PULL_UP, 0, 0, 1)?;
+    sheet.add(GateKind::PullUp, 0, 0, 1)?;
     for i in 0..30 {
-        sheet.add(XOR, register(i), ONE + 2 * i, 2)?;
-        sheet.add(AND, register(i), ONE + 2 * i, 1)?;
+        sheet.add(GateKind::Xor, register(i), ONE + 2 * i, 2)?;
+        sheet.add(GateKind::And, register(i), ONE + 2 * i, 1)?;
     }
-    sheet.add(XNOR, register(59), register(45), 2)?;
+    sheet.add(GateKind::Xnor, register(59), register(45), 2)?;
     Ok(())
 }
 
 // Fifteen lines of a bus with two drivers and a pull-up each, of which the counter's first bit selects.
 fn draw_bus(sheet: &mut Sheet) -> Result<(), AllocError> {
-    sheet.add(NOT, register(0), 0, 1)?;
+    sheet.add(GateKind::Not, register(0), 0, 1)?;
     for j in 0..15 {
-        sheet.add(TRI, register(1 + j), register(0), 3)?;
-        sheet.join(TRI, register(30 + j), NOT_SELECT, BUS + j, 3)?;
-        sheet.join(PULL_UP, 0, 0, BUS + j, 1)?;
+        sheet.add(GateKind::Tri, register(1 + j), register(0), 3)?;
+        sheet.join(GateKind::Tri, register(30 + j), NOT_SELECT, BUS + j, 3)?;
+        sheet.join(GateKind::PullUp, 0, 0, BUS + j, 1)?;
     }
     Ok(())
 }
@@ -110,19 +93,19 @@ fn draw_bus(sheet: &mut Sheet) -> Result<(), AllocError> {
 // Whether the bus differs from the last fifteen bits of the shift register, line by line.
 fn draw_differences(sheet: &mut Sheet) -> Result<(), AllocError> {
     for j in 0..15 {
-        sheet.add(XOR, BUS + j, register(45 + j), 2)?;
+        sheet.add(GateKind::Xor, BUS + j, register(45 + j), 2)?;
     }
     let mut any = DIFFERENCES;
     for j in 0..15 {
-        any = sheet.add(OR, any, DIFFERENCES + j, 1)?;
+        any = sheet.add(GateKind::Or, any, DIFFERENCES + j, 1)?;
     }
     Ok(())
 }
 
 // Sixty registers under one clock: a counter of thirty bits and a shift register of thirty.
 pub fn draw_card(sheet: &mut Sheet) -> Result<(), AllocError> {
-    sheet.add(NOT, CLOCK, 0, 32)?;
-    sheet.add(NOT, CLOCK, 0, 1)?;
+    sheet.add(GateKind::Not, CLOCK, 0, 32)?;
+    sheet.add(GateKind::Not, CLOCK, 0, 1)?;
     draw_registers(sheet)?;
     draw_counter(sheet)?;
     draw_bus(sheet)?;
@@ -134,9 +117,9 @@ fn draw_ring<D: Fn(u16) -> u16>(sheet: &mut Sheet, first: u16, delay: D) -> Resu
     requires room { first < 1020 }
     requires delays { D.IsAlwaysCallable delay }
 {
-    sheet.add(NOT, first + 4, 0, delay(first))?;
+    sheet.add(GateKind::Not, first + 4, 0, delay(first))?;
     for net in first + 1..first + 5 {
-        sheet.add(NOT, net - 1, 0, delay(net))?;
+        sheet.add(GateKind::Not, net - 1, 0, delay(net))?;
     }
     Ok(())
 }
@@ -154,11 +137,11 @@ fn delay(i: u16) -> u16 {
     7 * (i % 64) % 64 + 1
 }
 
-fn mixer(i: u16) -> u8 {
+fn mixer(i: u16) -> GateKind {
     match i % 4 {
-        0 => AND,
-        1 => OR,
-        _ => XOR,
+        0 => GateKind::And,
+        1 => GateKind::Or,
+        _ => GateKind::Xor,
     }
 }
 
@@ -183,19 +166,19 @@ pub fn draw_mixed(sheet: &mut Sheet) -> Result<(), AllocError> {
 
 // A slow oscillator beside a long chain that never changes.
 pub fn draw_quiet(sheet: &mut Sheet) -> Result<(), AllocError> {
-    sheet.add(NOT, 0, 0, 64)?;
-    sheet.add(PULL_DOWN, 0, 0, 1)?;
+    sheet.add(GateKind::Not, 0, 0, 64)?;
+    sheet.add(GateKind::PullDown, 0, 0, 1)?;
     for n in 2..1024 {
-        sheet.add(BUFFER, n - 1, 0, 1)?;
+        sheet.add(GateKind::Buffer, n - 1, 0, 1)?;
     }
     Ok(())
 }
 
 // A chain of inverters along which one change runs, and then nothing.
 pub fn draw_still(sheet: &mut Sheet) -> Result<(), AllocError> {
-    sheet.add(PULL_UP, 0, 0, 1)?;
+    sheet.add(GateKind::PullUp, 0, 0, 1)?;
     for n in 1..1024 {
-        sheet.add(NOT, n - 1, 0, 1)?;
+        sheet.add(GateKind::Not, n - 1, 0, 1)?;
     }
     Ok(())
 }

@@ -5,6 +5,7 @@ use calendar::calendar::Calendar;
 use calendar::entry::Entry;
 use heap::heap::Heap;
 use logic::family::Family;
+use netlist::gate::GateKind;
 use netlist::look_over::look_over;
 use netlist::place::Netlist;
 use nine_values::nine::NineValues;
@@ -21,8 +22,6 @@ const SLOTS: usize = 66_560;
 const TRACE: usize = 65_536;
 
 const STRIDE: u32 = 2_097_152;
-
-const NOT: u8 = 2;
 
 // What one run came to: its ticks, the records that it wrote, and the microseconds that it took.
 #[derive(Clone, Copy)]
@@ -51,10 +50,9 @@ fn advance_to<F: Family, C: Calendar>(
 ) -> anyhow::Result<()> {
     let mut left = ticks;
     while left > 0 {
-        let (done, _) = match run.advance(left.min(STRIDE), trace) {
-            Ok(advanced) => advanced,
-            Err(_) => return Err(anyhow!("the run refuses to advance")),
-        };
+        let (done, _) = run
+            .advance(left.min(STRIDE), trace)
+            .map_err(|_| anyhow!("the run refuses to advance"))?;
         if done == 0 {
             return Err(anyhow!("the trace has no room"));
         }
@@ -71,7 +69,7 @@ fn advance_to<F: Family, C: Calendar>(
 fn starts(heap: Global, net: &Netlist) -> Result<Vec<bool>, AllocError> {
     (0..1024)
         .zip(&net.gates[..net.head.gates as usize])
-        .map(|(g, gate)| gate.kind == NOT && g % 2 == 1)
+        .map(|(g, gate)| gate.kind == GateKind::Not && g % 2 == 1)
         .collect(heap)
 }
 
@@ -99,15 +97,14 @@ fn work<F: Family, C: Calendar>(
 
 fn run_choice(rt: &HostRuntime, choice: Choice, file: &[u8], ticks: u32) -> anyhow::Result<Lap> {
     let mut net = Netlist::new();
-    if look_over(file, &mut net).is_err() {
-        return Err(anyhow!("the board is refused"));
-    }
+    look_over(file, &mut net).map_err(|_| anyhow!("the board is refused"))?;
     let starts = starts(rt.alloc(), &net)?;
     let high = starts.as_slice();
     let mut entries = vec![in rt.alloc(); Entry::BLANK; ENTRIES]?;
     let mut slots = vec![in rt.alloc(); 0; SLOTS]?;
     let heap = Heap::new(entries.as_mut_slice());
     let wheel = Wheel::new(slots.as_mut_slice());
+    // Kept as it is: one generic function that owns a run would require a size of its calendar and of its values.
     match (choice.queue, choice.values) {
         (Queue::Heap, Values::Nine) => {
             let mut run: Run<NineValues, Heap> = Run::open(net, heap);

@@ -1,4 +1,4 @@
-use netlist::gate::Gate;
+use netlist::gate::{Gate, GateKind};
 use std::alloc::{AllocError, Global};
 
 // A board as it is drawn: its gates so far, and the first net that is still free.
@@ -19,7 +19,7 @@ impl Sheet {
     // One driver more of the net `out`.
     pub fn join(
         &mut self,
-        kind: u8,
+        kind: GateKind,
         a: u16,
         b: u16,
         out: u16,
@@ -36,7 +36,7 @@ impl Sheet {
     }
 
     // A gate with a net of its own, which it answers.
-    pub fn add(&mut self, kind: u8, a: u16, b: u16, delay: u16) -> Result<u16, AllocError> {
+    pub fn add(&mut self, kind: GateKind, a: u16, b: u16, delay: u16) -> Result<u16, AllocError> {
         let out = self.free;
         self.free = out.saturating_add(1);
         self.join(kind, a, b, out, delay)?;
@@ -51,7 +51,7 @@ impl Sheet {
         file.extend_from_slice(b"NLB")?;
         put(&mut file, &[1, self.free, 0, gates, watches])?;
         for gate in &self.gates {
-            file.push(gate.kind)?;
+            file.push(gate.kind.into())?;
             put(&mut file, &[gate.a, gate.b, gate.out, gate.delay])?;
         }
         for net in 0..watches {
