@@ -102,11 +102,7 @@ fn range_of(low: u8, high: u8) -> Option<Range>
 fn range_spelt(low: u8, high: u8) -> Option<Range>
     ensures { result ≡ range_spelt low high }
 {
-    if low >= b'0' && high >= b'0' {
-        range_of(low - b'0', high - b'0')
-    } else {
-        None
-    }
+    range_of(low.checked_sub(b'0')?, high.checked_sub(b'0')?)
 }
 
 #[derive(Drop)]
