@@ -19,7 +19,7 @@ use Rattle.number_set.specs.Members.{member}
 use Rattle.wheel.specs.Roster.{present, FirstWait}
 use Rattle.wheel.specs.Rings.{table, wheel_agenda, Inside}
 use Rattle.wheel.proofs.Rings.{There, put_there, removed, row_empty, row_first}
-use Rattle.wheel.proofs.Rosters.{no_match}
+use Rattle.wheel.proofs.Rosters.{no_match, row_member}
 
 eq_sym : (a b : ℕ) → eqb a b ≡ eqb b a
 eq_sym a b = grind (arith, nat_tests)
@@ -220,11 +220,11 @@ put_allowed a e u h = go (leb a.gates e.gate) (leb e.tick a.today) (ltb (a.today
         (gate, low, high, i, room, ap (λ o. unless o a (with_waiting a (placed before e a.waiting))) (put_stands a e gate low high i room))
 
 module _ (today G : ℕ) (ws : List NumberSet) (codes : List ℕ) (few : G ≤ 1024) where
-  -- an entry waits where its gate stands in its tick's row
-  pub waits_is : (e : Entry) → e.gate < G → today < e.tick → e.tick ≤ today + 64 → waits e (rows (table G ws codes) today 65 G) ≡ present ws (e.tick % 65) e.gate
-  waits_is e k low high =
+  -- an entry waits where its gate stands in the set of its tick's row
+  pub waits_is : (d : NumberSet) (e : Entry) → length ws ≡ 65 → e.gate < G → today < e.tick → e.tick ≤ today + 64 → waits e (rows (table G ws codes) today 65 G) ≡ member (get_or ws (e.tick % 65) d).words e.gate
+  waits_is d e long k low high =
       let f : ℕ → ℕ → Option ℕ = table G ws codes in
-      waits_where f f G today e.tick e.gate k (omega arith) (omega arith) e.code ∙ is_there (present ws (e.tick % 65) e.gate)
+      waits_where f f G today e.tick e.gate k (omega arith) (omega arith) e.code ∙ is_there (present ws (e.tick % 65) e.gate) ∙ row_member ws (e.tick % 65) d (omega arith) e.gate
     where
       is_there : (b : Bool) → is_some (cond b (Some (get_or codes (slot G e.tick e.gate) 0)) None) ≡ b
       is_there true = refl

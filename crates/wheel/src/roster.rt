@@ -14,6 +14,7 @@ pub(crate) fn set_gate(roster: &mut [NumberSet; ROWS], tick: u32, gate: u16, on:
     roster[(tick % 65) as usize].set(gate, on);
 }
 
+// Whether a gate stands in the row of a tick.
 fn waits(roster: &[NumberSet; ROWS], tick: u32) -> bool
     ensures some { result ≡ true → (g : ℕ) × Least roster.now (tick % 65) (Some g) }
     ensures none { result ≡ false → Least roster.now (tick % 65) None }

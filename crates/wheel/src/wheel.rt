@@ -1,7 +1,7 @@
 ghost use Rattle.std.specs.Prelude.{◌≡◌, ℕ, ◌*◌, ◌/◌, ◌<◌, ◌≤◌, min, true, length};
 ghost use Rattle.calendar.specs.Agenda.{put_answer, first, first_tick, sound, new_agenda};
-ghost use Rattle.calendar.specs.Table.{rows, slot};
-ghost use Rattle.wheel.specs.Rings.{table, wheel_agenda, Inside};
+ghost use Rattle.calendar.specs.Table.{slot};
+ghost use Rattle.wheel.specs.Rings.{wheel_agenda, Inside};
 
 use crate::roster::{ROWS, first_wait, set_gate};
 use calendar::calendar::Calendar;
@@ -24,9 +24,9 @@ pub struct Wheel<'a> {
     ghost sets: { length roster ≡ 65 },
     ghost inside: { Inside gates roster },
     ghost fits: { today ≤ 16777216 },
-    ghost counted: { count ≡ length (rows (table gates roster codes.now) today 65 gates) },
+    ghost counted: { count ≡ length (wheel_agenda today gates roster codes.now).waiting },
     ghost sound: { sound (wheel_agenda today gates roster codes.now) ≡ true },
-    ghost soonest: { soon ≡ first_tick (rows (table gates roster codes.now) today 65 gates) },
+    ghost soonest: { soon ≡ first_tick (wheel_agenda today gates roster codes.now).waiting },
 }
 
 impl<'a> Wheel<'a> {
@@ -45,6 +45,7 @@ impl<'a> Wheel<'a> {
         }
     }
 
+    // Where the code of a tick and gate stands.
     fn place(&self, tick: u32, gate: u16) -> usize
         requires { gate < self.now.gates }
         ensures value { result ≡ slot self.now.gates tick gate }
@@ -53,6 +54,7 @@ impl<'a> Wheel<'a> {
         (tick % 65) as usize * self.gates as usize + gate as usize
     }
 
+    // What a put answers.
     fn check_put(&self, e: Entry) -> Result<(), CalendarFault>
         ensures { result ≡ put_answer (wheel_agenda self.now.today self.now.gates self.now.roster self.now.codes.now) e }
     {
@@ -68,7 +70,7 @@ impl<'a> Wheel<'a> {
 
     // The first entry that waits.
     fn head(&self) -> Option<Entry>
-        ensures { result ≡ first (rows (table self.now.gates self.now.roster self.now.codes.now) self.now.today 65 self.now.gates) }
+        ensures { result ≡ first (wheel_agenda self.now.today self.now.gates self.now.roster self.now.codes.now).waiting }
     {
         let tick = self.soon?;
         let gate = self.roster[(tick % 65) as usize].first()?;

@@ -1,8 +1,5 @@
-use Rattle.number_set.proofs.Sets.{empty_set, some_word, least_number}
+use Rattle.number_set.proofs.Sets.{some_word, least_number}
 use Rattle.number_set.proofs.set.NumberSet.first.Goals as goal
-
-pub returns-then-self-eq0 : goal.returns-then-self-eq0
-returns-then-self-eq0 c = empty_set c.args.self.now.words c.args.self.now.used c.args.self.now.summed c.if-self-eq0.true
 
 pub returns : goal.returns
 returns c =

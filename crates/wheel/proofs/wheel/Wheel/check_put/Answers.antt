@@ -1,10 +1,9 @@
-use Rattle.std.proofs.Common.{◌%◌, Err, sym, refl, ap, ◌∙◌, arith}
+use Rattle.std.proofs.Common.{Err, sym, refl, ap, ◌∙◌, arith}
 use Rattle.std.specs.Prelude.{is_err}
 use Rattle.std.proofs.lemmas.Result.{err_from_is_err_and}
 use Rattle.calendar.specs.Agenda.{outcome}
 use Rattle.calendar.proofs.Faults.{put_stands, put_full, put_twice}
 use Rattle.wheel.specs.Rings.{wheel_agenda}
-use Rattle.wheel.proofs.Rosters.{row_member}
 use Rattle.wheel.proofs.Wheels.{waits_is}
 use Rattle.wheel.proofs.wheel.Wheel.check_put.Goals as goal
 
@@ -21,7 +20,7 @@ returns-then-contains c =
     let a = wheel_agenda w.today w.gates w.roster w.codes.now in
     let e = c.args.e in
     let place = c.in_ok-check_slot.ensures.ok.0 refl in
-    let waits = waits_is w.today w.gates w.roster w.codes.now w.few e place.0 place.1 place.2 ∙ row_member w.roster (e.tick % 65) c.index-self-e.result (omega arith) e.gate ∙ sym c.contains.ensures.member in
+    let waits = waits_is w.today w.gates w.roster w.codes.now w.few c.index-self-e.result e w.sets place.0 place.1 place.2 ∙ sym c.contains.ensures.member in
     ap Err c.at.ensures ∙ sym (ap (outcome a) (put_twice a e place.0 place.1 place.2 (waits ∙ c.if-contains.true)))
 
 pub returns-then-self-capacity : goal.returns-then-self-capacity
@@ -30,7 +29,7 @@ returns-then-self-capacity c =
     let a = wheel_agenda w.today w.gates w.roster w.codes.now in
     let e = c.args.e in
     let place = c.in_ok-check_slot.ensures.ok.0 refl in
-    let waits = waits_is w.today w.gates w.roster w.codes.now w.few e place.0 place.1 place.2 ∙ row_member w.roster (e.tick % 65) c.index-self-e.result (omega arith) e.gate ∙ sym c.contains.ensures.member in
+    let waits = waits_is w.today w.gates w.roster w.codes.now w.few c.index-self-e.result e w.sets place.0 place.1 place.2 ∙ sym c.contains.ensures.member in
     ap Err c.at-then-self-capacity.ensures ∙ sym (ap (outcome a) (put_full a e place.0 place.1 place.2 (waits ∙ c.if-contains.false) (omega (arith, w.counted))))
 
 pub returns : goal.returns
@@ -39,5 +38,5 @@ returns c =
     let a = wheel_agenda w.today w.gates w.roster w.codes.now in
     let e = c.args.e in
     let place = c.in_ok-check_slot.ensures.ok.0 refl in
-    let waits = waits_is w.today w.gates w.roster w.codes.now w.few e place.0 place.1 place.2 ∙ row_member w.roster (e.tick % 65) c.index-self-e.result (omega arith) e.gate ∙ sym c.contains.ensures.member in
+    let waits = waits_is w.today w.gates w.roster w.codes.now w.few c.index-self-e.result e w.sets place.0 place.1 place.2 ∙ sym c.contains.ensures.member in
     sym (ap (outcome a) (put_stands a e place.0 place.1 place.2 (waits ∙ c.if-contains.false) (omega (arith, w.counted))))

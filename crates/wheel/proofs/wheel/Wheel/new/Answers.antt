@@ -18,8 +18,3 @@ invariant_of-result c =
       sound = ap (λ z. sound (with_waiting (new_agenda G (64 * G)) z)) none ∙ le-leb 0 (64 * G) (omega arith);
       soonest = sym (ap first_tick none);
     }
-
-pub returns : goal.returns
-returns c =
-    let G = c.min-gates.result in
-    ap (with_waiting (new_agenda G (64 * G))) (new_rows c.new.result c.new.ensures G (omega arith) c.args.buffer.now) ∙ ap (λ g. new_agenda g (64 * g)) c.min-gates.ensures
