@@ -4,11 +4,10 @@
 
 #![tactic(auto)]
 
-use board_file::file::board_bytes;
+use board_file::file::{board_bytes, board_of};
 use board_file::lines::refusal_line;
 use calendar::entry::Entry;
 use heap::heap::Heap;
-use netlist::look_over::look_over;
 use netlist::place::Netlist;
 use nine_values::nine::NineValues;
 use run::state::Run;
@@ -29,20 +28,15 @@ const BLANK: Entry = Entry {
 fn main(rt: HostRuntime) -> io::Result<()> {
     let heap = rt.alloc();
     let bytes = board_bytes(&rt, heap, "board.nlb")?;
-    let mut board = Netlist::new();
-    if let Err(fault) = look_over(bytes.as_slice(), &mut board) {
-        let line = refusal_line(heap, fault)?;
-        return println!(rt; "{line}");
-    }
-    let mut args = env::args(&rt)?;
-    let _ = args.next();
-    match args.next() {
-        None => work(&rt, board),
-        Some(name) => {
-            let mut again = Netlist::new();
-            let _ = look_over(bytes.as_slice(), &mut again);
-            work_both(&rt, board, again, name.as_str())
+    match board_of(bytes.as_slice()) {
+        Err(fault) => {
+            let line = refusal_line(heap, fault)?;
+            println!(rt; "{line}")
         }
+        Ok(board) => match env::args(&rt)?.nth(1) {
+            None => work(&rt, board),
+            Some(name) => work_both(&rt, board, bytes.as_slice(), name.as_str()),
+        },
     }
 }
 
@@ -57,8 +51,9 @@ fn work(rt: &HostRuntime, board: Netlist) -> io::Result<()> {
 
 // Works the script on standard input and the one in a file, on two runs of one board, and says whether the second run contradicts
 // a definite level of the first.
-fn work_both(rt: &HostRuntime, board: Netlist, again: Netlist, name: &str) -> io::Result<()> {
+fn work_both(rt: &HostRuntime, board: Netlist, bytes: &[u8], name: &str) -> io::Result<()> {
     let heap = rt.alloc();
+    let again = board_of(bytes).unwrap_or(Netlist::new());
     let mut entries = vec![in heap; BLANK; 65_536]?;
     let mut codes = vec![in heap; 0; 66_560]?;
     let mut input = rt.stdin();

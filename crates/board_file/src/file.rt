@@ -1,5 +1,9 @@
 ghost use Rattle.std.specs.Prelude.{◌≤◌, IfOk, vec_len};
+ghost use Rattle.board_file.specs.Boards.{BoardOf};
 
+use netlist::fault::NetlistFault;
+use netlist::look_over::look_over;
+use netlist::place::Netlist;
 use std::alloc::Global;
 use std::fs::File;
 use std::io;
@@ -16,4 +20,13 @@ pub fn board_bytes(rt: &HostRuntime, heap: Global, name: &str) -> io::Result<Vec
     // what `take` reads is not in its contract, so the length is made sure of here
     bytes.truncate(16384);
     Ok(bytes)
+}
+
+// The netlist of a file, or why the file is refused.
+pub fn board_of(bytes: &[u8]) -> Result<Netlist, NetlistFault>
+    ensures { BoardOf bytes.now result }
+{
+    let mut board = Netlist::new();
+    look_over(bytes, &mut board)?;
+    Ok(board)
 }

@@ -2,8 +2,7 @@
 
 #![tactic(auto)]
 
-use board_file::file::board_bytes;
-use netlist::look_over::look_over;
+use board_file::file::{board_bytes, board_of};
 use netlist::place::Netlist;
 use pull_ranges::pulls::PullRanges;
 use run::state::Run;
@@ -15,8 +14,7 @@ use wheel::wheel::Wheel;
 fn main(rt: HostRuntime) -> io::Result<()> {
     let heap = rt.alloc();
     let bytes = board_bytes(&rt, heap, "board.nlb")?;
-    let mut board = Netlist::new();
-    let _ = look_over(bytes.as_slice(), &mut board);
+    let board = board_of(bytes.as_slice()).unwrap_or(Netlist::new());
     let mut codes = vec![in heap; 0; 66_560]?;
     let mut input = rt.stdin();
     let mut sink = BufWriter::new(heap, rt.stdout())?;

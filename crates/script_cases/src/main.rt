@@ -3,12 +3,9 @@
 
 #![tactic(auto)]
 
-use board_file::file::board_bytes;
-use calendar::calendar::Calendar;
+use board_file::file::{board_bytes, board_of};
 use calendar::entry::Entry;
 use heap::heap::Heap;
-use logic::named::Named;
-use netlist::look_over::look_over;
 use netlist::place::Netlist;
 use nine_values::nine::NineValues;
 use run::state::Run;
@@ -29,6 +26,14 @@ const RING: &[u8] = b"wake 0 0\nadvance 5000\nadvance 3\nread 0\n";
 
 const UNFIT: &[u8] = b"wake 0 0\ndrive 0 1\nadvance 1\nadvance 0\nread 0\nread 99\nhello\n";
 
+const BUFFERS: [(usize, usize); 5] = [
+    (39_999, 16_384),
+    (40_000, 16_383),
+    (40_000, 16_385),
+    (0, 0),
+    (40_000, 16_384),
+];
+
 fn main(rt: HostRuntime) -> io::Result<()> {
     let heap = rt.alloc();
     let mut entries = vec![in heap; BLANK; 4_096]?;
@@ -37,53 +42,56 @@ fn main(rt: HostRuntime) -> io::Result<()> {
     let mut full = RING;
     let mut unfit = UNFIT;
     let mut sink = BufWriter::new(heap, rt.stdout())?;
-    let latch = board(&rt, heap, "board.nlb")?;
-    serve(latch, entries.as_mut_slice(), &mut input, &mut sink, heap)?;
-    let ring = board(&rt, heap, "ring.nlb")?;
-    serve(ring, entries.as_mut_slice(), &mut full, &mut sink, heap)?;
-    let again = board(&rt, heap, "board.nlb")?;
-    serve(again, &mut few, &mut unfit, &mut sink, heap)?;
-    let last = board(&rt, heap, "board.nlb")?;
+    let latch = board_bytes(&rt, heap, "board.nlb")?;
+    let ring = board_bytes(&rt, heap, "ring.nlb")?;
+    serve(
+        latch.as_slice(),
+        entries.as_mut_slice(),
+        &mut input,
+        &mut sink,
+        heap,
+    )?;
+    serve(
+        ring.as_slice(),
+        entries.as_mut_slice(),
+        &mut full,
+        &mut sink,
+        heap,
+    )?;
+    serve(latch.as_slice(), &mut few, &mut unfit, &mut sink, heap)?;
+    let last = board_of(latch.as_slice()).unwrap_or(Netlist::new());
     let mut run: Run<NineValues, Heap> = Run::open(last, Heap::new(entries.as_mut_slice()));
     small_buffers(&rt, &mut run)
 }
 
-fn board(rt: &HostRuntime, heap: Global, name: &str) -> io::Result<Netlist> {
-    let bytes = board_bytes(rt, heap, name)?;
-    let mut place = Netlist::new();
-    let _ = look_over(bytes.as_slice(), &mut place);
-    Ok(place)
-}
-
-// Works a script on a new run of a board.
+// Works a script on a new run of a board's file.
 fn serve<R: Read>(
-    board: Netlist,
+    file: &[u8],
     entries: &mut [Entry],
     script: &mut R,
     sink: &mut BufWriter<Stdout>,
     heap: Global,
 ) -> io::Result<()> {
+    let board = board_of(file).unwrap_or(Netlist::new());
     let mut run: Run<NineValues, Heap> = Run::open(board, Heap::new(entries));
     work_script(&mut run, script, sink, heap)
 }
 
 // The fault of each pair of buffers, at line 7; the line is good, so that nothing else is wrong.
-fn small_buffers<F: Named, C: Calendar>(rt: &HostRuntime, run: &mut Run<F, C>) -> io::Result<()> {
-    let heap = rt.alloc();
-    try_buffers(rt, heap, run, 39_999, 16_384)?;
-    try_buffers(rt, heap, run, 40_000, 16_383)?;
-    try_buffers(rt, heap, run, 40_000, 16_385)?;
-    try_buffers(rt, heap, run, 0, 0)?;
-    try_buffers(rt, heap, run, 40_000, 16_384)
+fn small_buffers(rt: &HostRuntime, run: &mut Run<NineValues, Heap>) -> io::Result<()> {
+    for (wide, long) in BUFFERS {
+        try_buffers(rt, run, wide, long)?;
+    }
+    Ok(())
 }
 
-fn try_buffers<F: Named, C: Calendar>(
+fn try_buffers(
     rt: &HostRuntime,
-    heap: Global,
-    run: &mut Run<F, C>,
+    run: &mut Run<NineValues, Heap>,
     wide: usize,
     long: usize,
 ) -> io::Result<()> {
+    let heap = rt.alloc();
     let mut out = vec![in heap; 0; wide]?;
     let mut trace = vec![in heap; 0; long]?;
     let (count, fault) = answer_line(
@@ -106,9 +114,11 @@ fn say_fault(
     count: usize,
     fault: ScriptFault,
 ) -> io::Result<()> {
-    let line = fault.line();
-    let number = fault.number();
-    let letter = fault.letter();
-    let place = fault.place();
-    println!(rt; "{wide} {long}: {count} bytes, {line} {number} {letter} {place}")
+    println!(rt;
+        "{wide} {long}: {count} bytes, {} {} {} {}",
+        fault.line(),
+        fault.number(),
+        fault.letter(),
+        fault.place()
+    )
 }

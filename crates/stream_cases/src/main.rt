@@ -3,10 +3,9 @@
 
 #![tactic(auto)]
 
-use board_file::file::board_bytes;
+use board_file::file::{board_bytes, board_of};
 use calendar::entry::Entry;
 use heap::heap::Heap;
-use netlist::look_over::look_over;
 use netlist::place::Netlist;
 use nine_values::nine::NineValues;
 use run::state::Run;
@@ -43,13 +42,6 @@ fn main(rt: HostRuntime) -> io::Result<()> {
     pair(&rt, heap, SET, &mut sink)
 }
 
-fn board(rt: &HostRuntime, heap: Global, name: &str) -> io::Result<Netlist> {
-    let bytes = board_bytes(rt, heap, name)?;
-    let mut place = Netlist::new();
-    let _ = look_over(bytes.as_slice(), &mut place);
-    Ok(place)
-}
-
 // Works a script on a new run.
 fn alone<R: Read>(
     rt: &HostRuntime,
@@ -58,8 +50,9 @@ fn alone<R: Read>(
     sink: &mut BufWriter<Stdout>,
 ) -> io::Result<()> {
     let mut entries = vec![in heap; BLANK; 4_096]?;
-    let place = board(rt, heap, "board.nlb")?;
-    let mut run: Run<NineValues, Heap> = Run::open(place, Heap::new(entries.as_mut_slice()));
+    let bytes = board_bytes(rt, heap, "board.nlb")?;
+    let board = board_of(bytes.as_slice()).unwrap_or(Netlist::new());
+    let mut run: Run<NineValues, Heap> = Run::open(board, Heap::new(entries.as_mut_slice()));
     work_script(&mut run, script, sink, heap)
 }
 
@@ -72,8 +65,9 @@ fn pair(
 ) -> io::Result<()> {
     let mut entries = vec![in heap; BLANK; 4_096]?;
     let mut codes = vec![in heap; 0; 66_560]?;
-    let latch = board(rt, heap, "latch.nlb")?;
-    let again = board(rt, heap, "latch.nlb")?;
+    let bytes = board_bytes(rt, heap, "latch.nlb")?;
+    let latch = board_of(bytes.as_slice()).unwrap_or(Netlist::new());
+    let again = board_of(bytes.as_slice()).unwrap_or(Netlist::new());
     let mut first: Run<NineValues, Heap> = Run::open(latch, Heap::new(entries.as_mut_slice()));
     let mut second: Run<NineValues, Wheel> = Run::open(again, Wheel::new(codes.as_mut_slice()));
     let mut script = RESET;
