@@ -1,7 +1,7 @@
 use Rattle.std.proofs.Common.{◌-◌, ap, sym, ◌∙◌, arith}
 use Rattle.calendar.specs.Agenda.{before, entry, first, rest}
 use Rattle.calendar.proofs.Entries.{strict}
-use Rattle.heap.proofs.Piles.{pop_ready, popped_length, popped_items, put_back}
+use Rattle.heap.proofs.Piles.{popped_items}
 use Rattle.heap.proofs.pile.Pile.pop.Goals as goal
 
 pub returns-clause-answer : goal.returns-clause-answer

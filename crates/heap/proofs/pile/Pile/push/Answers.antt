@@ -2,7 +2,7 @@ use Rattle.std.proofs.Common.{◌+◌, ◌-◌, ap, ◌∙◌, arith, length-set
 use Rattle.calendar.specs.Order.{placed}
 use Rattle.calendar.specs.Agenda.{before}
 use Rattle.calendar.proofs.Entries.{strict}
-use Rattle.heap.proofs.Piles.{push_length, push_ready, pushed_length, pushed_items, put_back, room_left}
+use Rattle.heap.proofs.Piles.{pushed_items, room_left}
 use Rattle.heap.proofs.pile.Pile.push.Goals as goal
 
 pub bounds-self-inside-n : goal.bounds-self-inside-n
