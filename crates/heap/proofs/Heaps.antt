@@ -29,26 +29,6 @@ module _ {X : Type 0} (lt : X → X → Bool) where
       ((p k : ℕ) (d : X) → p * 2 + 1 ≤ k → k ≤ p * 2 + 2 → k < n → (p ≡ j → ⊥) → lt (get_or xs k d) (get_or xs p d) ≡ false)
       × ((p k : ℕ) (d : X) → p * 2 + 1 ≤ j → j ≤ p * 2 + 2 → j * 2 + 1 ≤ k → k ≤ j * 2 + 2 → k < n → lt (get_or xs k d) (get_or xs p d) ≡ false)
 
-  edge : (xs : List X) (low n : ℕ) → Heaped lt xs low n → (p k : ℕ) (d : X) → low < k → p * 2 + 1 ≤ k → k ≤ p * 2 + 2 → k < n → lt (get_or xs k d) (get_or xs p d) ≡ false
-  edge xs low n h p k d lo a b f = let same : p ≡ (k - 1) / 2 = omega arith in by _ _ _ _ refl (ap (λ m. get_or xs m d) same) (h k d (lo, f))
-
-  pub rise_begins : (xs : List X) (j n : ℕ) → n ≡ j + 1 → Heaped lt xs 0 j → Rising xs j n
-  rise_begins xs j n e h = (λ p k d a b f u. edge xs 0 j h p k d (omega arith) a b (omega arith), λ p k d a b f g i. absurd (omega arith))
-
-  pub rise_tops : (xs : List X) (j n : ℕ) → j ≡ 0 → Rising xs j n → Heaped lt xs 0 n
-  rise_tops xs j n z h = λ k d f. h.0 ((k - 1) / 2) k d (omega arith) (omega arith) f.1 (omega arith)
-
-  pub rise_rests : (xs : List X) (j q n : ℕ) → q * 2 + 1 ≤ j → j ≤ q * 2 + 2 → ((d : X) → lt (get_or xs j d) (get_or xs q d) ≡ false) → Rising xs j n → Heaped lt xs 0 n
-  rise_rests xs j q n s t l h = λ k d f. ⊎_elim
-      (λ e. let same : (k - 1) / 2 ≡ q = omega arith in by _ _ _ _ (ap (λ m. get_or xs m d) e) (ap (λ m. get_or xs m d) same) (l d))
-      (λ u. h.0 ((k - 1) / 2) k d (omega arith) (omega arith) f.1 u) (cases_eq k j)
-
-  pub sink_begins : (xs : List X) (n : ℕ) → Heaped lt xs 2 n → Sinking xs 0 n
-  sink_begins xs n h = (λ p k d a b f u. edge xs 2 n h p k d (omega arith) a b f, λ p k d a b f g i. absurd (omega arith))
-
-  pub sink_ends : (xs : List X) (j n : ℕ) → n ≤ j * 2 + 1 → Sinking xs j n → Heaped lt xs 0 n
-  sink_ends xs j n l h = λ k d f. h.0 ((k - 1) / 2) k d (omega arith) (omega arith) f.1 (omega arith)
-
   module _ (o : Strict lt) where
     never : (x : X) (b : Bool) → lt x x ≡ b → lt x x ≡ false
     never x true e = o.one_way x x e

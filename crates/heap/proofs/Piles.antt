@@ -1,10 +1,10 @@
 -- What a push and a pop make of a pile. Assumes nothing.
-use Rattle.std.proofs.Common.{◌≡◌, ℕ, zero, suc, ◌+◌, ◌-◌, ◌/◌, ◌<◌, ◌≤◌, Bool, false, not, List, [], ◌∷◌, ◌++◌, length, get_or, take, drop, set, sym, refl, ap, ◌∙◌, subst, ⊎_elim, arith, length-append, length-set, length-take, length-take-le, get_or-drop, get_or-set_other, get_or-take}
+use Rattle.std.proofs.Common.{◌≡◌, ℕ, zero, suc, ◌+◌, ◌-◌, ◌<◌, ◌≤◌, Bool, false, not, List, [], ◌∷◌, ◌++◌, length, get_or, take, drop, set, sym, refl, ap, ◌∙◌, ⊎_elim, arith, length-set, length-take, length-take-le, get_or-drop, get_or-take}
 use Rattle.std.specs.Prelude.{slice_get}
 use Rattle.std.specs.List.Sorted.{IsPermutation}
 use Rattle.std.specs.List.{AllByRecursion}
 use Rattle.std.proofs.ByRecursion.{All-from_get_or}
-use Rattle.std.proofs.lemmas.List.{take_at, take_more, take_more_set, get_or_append_left, get_or-append_right}
+use Rattle.std.proofs.lemmas.List.{take_at, take_more, take_more_set, get_or-append_right}
 use Rattle.std.proofs.lemmas.List.Sorted.{IsPermutation-to_front, length_permutation}
 use Rattle.std.proofs.lemmas.Bool.{cases_eq}
 use Rattle.calendar.specs.Order.{Strict, in_order, placed}
@@ -25,17 +25,6 @@ take_set_in (suc n) (x ∷ xs) zero v = refl
 take_set_in (suc n) (x ∷ xs) (suc i) v = ap (λ l. x ∷ l) (take_set_in n xs i v)
 
 module _ {X : Type 0} (lt : X → X → Bool) where
-  pub heaped_agrees : (xs ys : List X) (low n m : ℕ) → m ≤ n → ((k : ℕ) (d : X) → k < m → low < k + k + 3 → get_or ys k d ≡ get_or xs k d) → Heaped lt xs low n → Heaped lt ys low m
-  heaped_agrees xs ys low n m le e h = λ k d f. ap (λ z. lt z (get_or ys ((k - 1) / 2) d)) (e k d f.1 (omega arith)) ∙ ap (lt (get_or xs k d)) (e ((k - 1) / 2) d (omega arith) (omega arith)) ∙ h k d (f.0, omega arith)
-
-  -- a part from the start, put back
-  heaped_back : (ys t : List X) (n : ℕ) → length ys ≡ n → Heaped lt ys 0 (length ys) → Heaped lt (ys ++ t) 0 n
-  heaped_back ys t n e h = heaped_agrees ys (ys ++ t) 0 (length ys) n (omega arith) (λ k d f _. get_or_append_left ys t d k (omega arith)) h
-
-  -- and it is within the whole
-  pub put_back : (ys t : List X) (n : ℕ) → length ys ≡ n → Heaped lt ys 0 (length ys) → (n ≤ length (ys ++ t)) × Heaped lt (ys ++ t) 0 n
-  put_back ys t n e h = (omega (arith, length-append ys t), heaped_back ys t n e h)
-
   -- the top of a heap stands first
   pub heap_first : Strict lt → (xs : List X) (n : ℕ) (d : X) → 0 < n → n ≤ length xs → Heaped lt xs 0 n → (rest : List X) × (in_order lt (take n xs) ≡ get_or xs 0 d ∷ rest)
   heap_first o xs zero d p q h = absurd (omega arith)
@@ -51,10 +40,6 @@ module _ {X : Type 0} (lt : X → X → Bool) where
     pub push_length : length (take m (set xs n e)) ≡ m
     push_length = length-take-le m (set xs n e) (simp length-set (omega arith))
 
-    pub push_ready : Heaped lt xs 0 n → Heaped lt (take m (set xs n e)) 0 (length (take m (set xs n e)) - 1)
-    push_ready h = heaped_agrees xs (take m (set xs n e)) 0 n (length (take m (set xs n e)) - 1) (omega (arith, push_length))
-        (λ k d f _. get_or-take m (set xs n e) k d (omega (arith, push_length)) ∙ get_or-set_other xs n k e d (omega (arith, push_length))) h
-
     pub pushed_length : (ys : List X) → IsPermutation (take m (set xs n e)) ys → length ys ≡ n + 1
     pushed_length ys s = length_permutation _ ys s ∙ push_length ∙ more
 
@@ -69,16 +54,6 @@ module _ {X : Type 0} (lt : X → X → Bool) where
   module _ (o : Strict lt) (xs ws : List X) (n l m : ℕ) (last : l + 1 ≡ n) (is-l : m ≡ l) (within : n ≤ length xs) (size : length ws ≡ length xs) (w : Swapped xs ws 0 l) where
     pub pop_length : length (take l ws) ≡ l
     pop_length = length-take-le l ws (omega arith)
-
-    ready : Heaped lt xs 0 n → Heaped lt (take l ws) 2 (length (take l ws))
-    ready h = λ k d f.
-        let short : length (take l ws) ≡ l = pop_length in
-        ap (λ z. lt z (get_or (take l ws) ((k - 1) / 2) d)) (get_or-take l ws k d (omega arith) ∙ w.2 k d (omega arith) (omega arith))
-        ∙ ap (lt (get_or xs k d)) (get_or-take l ws ((k - 1) / 2) d (omega arith) ∙ w.2 ((k - 1) / 2) d (omega arith) (omega arith))
-        ∙ h k d (omega arith, omega arith)
-
-    pub pop_ready : Heaped lt xs 0 n → Heaped lt (take m ws) 2 (length (take m ws))
-    pop_ready h = subst (λ k. Heaped lt (take k ws) 2 (length (take k ws))) (sym is-l) (ready h)
 
     pub popped_length : (ys : List X) → IsPermutation (take m ws) ys → length ys ≡ l
     popped_length ys s = length_permutation _ ys s ∙ ap (λ k. length (take k ws)) is-l ∙ pop_length

@@ -2,6 +2,7 @@ ghost use Rattle.std.specs.Prelude.{◌≡◌, ℕ, ◌%◌, ◌<◌, ◌&&◌, 
 ghost use Rattle.heap.specs.Marks.{marked};
 
 // A row for each tick that can wait, in it a mark for each gate.
+// Kept as it is: flags are no less plain than a set of numbers, whose least number no heap asks for, and a mark is one byte written.
 #[derive(Drop)]
 pub struct Marks {
     pub rows: [[bool; 1024]; 65],

@@ -1,8 +1,8 @@
-use Rattle.std.proofs.Common.{length, refl, arith}
-use Rattle.std.proofs.lemmas.List.Sorted.{IsPermutation-trans, IsPermutation-refl}
+use Rattle.std.proofs.Common.{length, arith}
+use Rattle.std.proofs.lemmas.List.Sorted.{IsPermutation-trans}
 use Rattle.calendar.specs.Agenda.{before}
 use Rattle.calendar.proofs.Entries.{strict}
-use Rattle.heap.proofs.Heaps.{sink_begins, sink_rests, sink_steps}
+use Rattle.heap.proofs.Heaps.{sink_rests, sink_steps}
 use Rattle.heap.proofs.Piles.{tested_ge}
 use Rattle.heap.proofs.sift.sift_down.Goals as goal
 
@@ -22,6 +22,3 @@ loop-at-preserved c =
     let told = c.swap.ensures in
     let sooner = tested_ge l.heap child l.at _ (omega arith) (omega arith) c.if-ge.ensures in
     (omega arith, IsPermutation-trans _ l.heap zs l.invariant.1 told.permutation, rw told.len (sink_steps before strict l.heap zs l.at child (length l.heap) is.child.0 is.child.1 is.child.2 (told.by_index.0, told.by_index.1, told.by_index.2) sooner is.least l.invariant.2))
-
-pub loop-at-init : goal.loop-at-init
-loop-at-init c = (refl, IsPermutation-refl _, sink_begins before c.args.heap.now _ c.requires.heaped)

@@ -1,27 +1,8 @@
 use Rattle.std.proofs.Common.{◌-◌, ap, sym, ◌∙◌, arith}
 use Rattle.calendar.specs.Agenda.{before, entry, first, rest}
 use Rattle.calendar.proofs.Entries.{strict}
-use Rattle.heap.proofs.Piles.{pop_ready, popped_length, popped_items, put_back}
+use Rattle.heap.proofs.Piles.{popped_items}
 use Rattle.heap.proofs.pile.Pile.pop.Goals as goal
-
-pub sift_down-requires : goal.sift_down-requires
-sift_down-requires c =
-    let xs = c.self.inside.entries.now in
-    let n = c.self.inside.len in
-    let l = c.in_ok-last.last in
-    let swap = c.swap.ensures in
-    record { heaped = pop_ready before strict xs c.swap.new.self n l (l - 0) (omega arith) (omega arith) c.self.invariant.0 swap.len (swap.by_index.0, swap.by_index.1, swap.by_index.2) c.self.invariant.1 }
-
-pub invariant_of-self : goal.invariant_of-self
-invariant_of-self c =
-    let xs = c.self.inside.entries.now in
-    let n = c.self.inside.len in
-    let l = c.in_ok-last.last in
-    let swap = c.swap.ensures in
-    let ys = c.sift_down.new.heap in
-    let told = c.sift_down.ensures in
-    let long = popped_length before strict xs c.swap.new.self n l (l - 0) (omega arith) (omega arith) c.self.invariant.0 swap.len (swap.by_index.0, swap.by_index.1, swap.by_index.2) ys told.shuffled in
-    put_back before ys _ l long told.heaped
 
 pub returns-clause-answer : goal.returns-clause-answer
 returns-clause-answer c =
