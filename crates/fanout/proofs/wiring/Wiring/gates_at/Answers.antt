@@ -1,4 +1,4 @@
-use Rattle.std.proofs.Common.{Some, sym, ap, ◌∙◌, arith}
+use Rattle.std.proofs.Common.{Some, ◌∙◌, arith}
 use Rattle.netlist.specs.Looked.{contents}
 use Rattle.netlist.proofs.Contents.{gate_count as gates-count}
 use Rattle.fanout.proofs.Chains.{found_gate, chain_found}
