@@ -1,12 +1,13 @@
 -- What stands in the chains. Assumes nothing.
-use Rattle.std.proofs.Common.{◌≡◌, ℕ, zero, suc, ◌+◌, ◌-◌, ◌<◌, ◌≤◌, Bool, true, false, cond, eqb, List, [], ◌∷◌, length, get_or, set, replicate, Some, None, Option, sym, refl, ap, ◌∙◌, ⊎_elim, arith, length-set, get_or-set_other, get_or-set_same}
+use Rattle.std.proofs.Common.{◌≡◌, ℕ, zero, suc, ◌+◌, ◌-◌, ◌<◌, ◌≤◌, Bool, true, false, cond, List, [], ◌∷◌, length, get_or, set, replicate, Some, None, Option, sym, refl, ap, ◌∙◌, ⊎_elim, arith, length-set, get_or-set_other, get_or-set_same}
+use Rattle.std.specs.Bool.{then_some}
 use Rattle.std.specs.List.{range_with_len, filter, find}
 use Rattle.std.proofs.lemmas.List.{get_or-replicate, length-replicate}
-use Rattle.std.proofs.lemmas.Bool.{cond-true, cond-false, cases_eq, cases_lt, eq-eqb, ne_eqb, eqb-true, false≢true}
+use Rattle.std.proofs.lemmas.Bool.{lt-ltb, cond-true, cond-false, cases_eq, eq-eqb, ne_eqb, eqb-true, false≢true}
 use Rattle.netlist.specs.Board.{Board}
 use Rattle.signal.specs.Circuit.{gate_count}
 use Rattle.fanout.specs.declared.pin.Pin.{Pin}
-use Rattle.fanout.specs.Seek.{same_net, net_at, meets, numbers_from}
+use Rattle.fanout.specs.Seek.{same_net, net_at, meets, numbers_from, named}
 use Rattle.fanout.specs.Left.{chain_from}
 
 pub same-true : (o q : Option ℕ) → same_net o q ≡ true → o ≡ q
@@ -66,48 +67,48 @@ never_met C p (g ∷ gs) = by (net_at C p g) (never_met C p gs)
     by (Some m) e = e
 
 -- the chains of the gates from g on
-pub record Linked (C : Board) (p : Pin) (g : ℕ) (first next : List (Option ℕ)) : Type 0 where
+pub record Linked (C : Board) (p : Pin) (g : ℕ) (first next : List ℕ) : Type 0 where
   pub long : length first ≡ 1024
   pub wide : length next ≡ 1024
-  pub heads : (n : ℕ) → n < 1024 → get_or first n None ≡ find (meets C p (Some n)) (numbers_from C g)
-  pub links : (h : ℕ) → g ≤ h → h < gate_count C → get_or next h None ≡ find (meets C p (net_at C p h)) (numbers_from C (h + 1))
-  pub blank : (h : ℕ) → h < g → get_or next h None ≡ None
+  pub heads : (n : ℕ) → n < 1024 → named (get_or first n 0) ≡ find (meets C p (Some n)) (numbers_from C g)
+  pub links : (h : ℕ) → g ≤ h → h < gate_count C → named (get_or next h 0) ≡ find (meets C p (net_at C p h)) (numbers_from C (h + 1))
+  pub blank : (h : ℕ) → h < g → get_or next h 0 ≡ 1024
 
-pub linked_none : (C : Board) (p : Pin) (g : ℕ) → g ≡ gate_count C → g ≤ 1024 → Linked C p g (replicate 1024 None) (replicate 1024 None)
+pub linked_none : (C : Board) (p : Pin) (g : ℕ) → g ≡ gate_count C → g ≤ 1024 → Linked C p g (replicate 1024 1024) (replicate 1024 1024)
 linked_none C p g e le = record {
-  long = length-replicate {A = Option ℕ} 1024 None;
-  wide = length-replicate {A = Option ℕ} 1024 None;
-  heads = λ n h. get_or-replicate 1024 n None None h ∙ sym (ap (λ k. find (meets C p (Some n)) (range_with_len g k)) (none g (gate_count C) e));
+  long = length-replicate {A = ℕ} 1024 1024;
+  wide = length-replicate {A = ℕ} 1024 1024;
+  heads = λ n h. ap named (get_or-replicate 1024 n 1024 0 h) ∙ sym (ap (λ k. find (meets C p (Some n)) (range_with_len g k)) (none g (gate_count C) e));
   links = λ h a b. absurd (omega arith);
-  blank = λ h lt. get_or-replicate 1024 h None None (omega arith);
+  blank = λ h lt. get_or-replicate 1024 h 1024 0 (omega arith);
 }
   where
     none : (g k : ℕ) → g ≡ k → k - g ≡ 0
     none g k e = omega arith
 
-module _ (C : Board) (p : Pin) (g : ℕ) (first next : List (Option ℕ)) (lt : g < gate_count C) (fits : gate_count C ≤ 1024) (l : Linked C p (g + 1) first next) where
+module _ (C : Board) (p : Pin) (g : ℕ) (first next : List ℕ) (lt : g < gate_count C) (fits : gate_count C ≤ 1024) (l : Linked C p (g + 1) first next) where
   step : (o : Option ℕ) → find (meets C p o) (numbers_from C g) ≡ cond (meets C p o g) (Some g) (find (meets C p o) (numbers_from C (g + 1)))
   step o = ap (λ k. find (meets C p o) (range_with_len g k)) (one (gate_count C) g lt)
     where
       one : (c k : ℕ) → k < c → c - k ≡ suc (c - (k + 1))
       one c k h = omega arith
 
-  pub linked_more : (n : ℕ) → n < 1024 → net_at C p g ≡ Some n → Linked C p g (set first n (Some g)) (set next g (get_or first n None))
+  pub linked_more : (n : ℕ) → n < 1024 → net_at C p g ≡ Some n → Linked C p g (set first n g) (set next g (get_or first n 0))
   linked_more n small e = record {
-    long = length-set first n (Some g) ∙ l.long;
-    wide = length-set next g (get_or first n None) ∙ l.wide;
+    long = length-set first n g ∙ l.long;
+    wide = length-set next g (get_or first n 0) ∙ l.wide;
     heads = λ m h. ⊎_elim
-        (λ same. ap (λ z. get_or (set first n (Some g)) z None) same ∙ get_or-set_same first n (Some g) None (omega (arith, l.long))
+        (λ same. ap (λ z. named (get_or (set first n g) z 0)) same ∙ ap named (get_or-set_same first n g 0 (omega (arith, l.long))) ∙ ap (λ b. then_some b g) (lt-ltb g 1024 (omega arith))
         ∙ sym (step (Some m) ∙ cond-true (meets C p (Some m) g) (Some g) (find (meets C p (Some m)) (numbers_from C (g + 1))) (ap (λ o. same_net o (Some m)) e ∙ eq-eqb n m (sym same))))
-        (λ ne. get_or-set_other first n m (Some g) None ne ∙ l.heads m h
+        (λ ne. ap named (get_or-set_other first n m g 0 ne) ∙ l.heads m h
         ∙ sym (step (Some m) ∙ cond-false (meets C p (Some m) g) (Some g) (find (meets C p (Some m)) (numbers_from C (g + 1))) (ap (λ o. same_net o (Some m)) e ∙ ne_eqb n m (λ q. ne (sym q)))))
         (cases_eq m n);
     links = λ h a b. ⊎_elim
-        (λ same. ap (λ z. get_or (set next g (get_or first n None)) z None) same ∙ get_or-set_same next g (get_or first n None) None (omega (arith, l.wide)) ∙ l.heads n small
+        (λ same. ap (λ z. named (get_or (set next g (get_or first n 0)) z 0)) same ∙ ap named (get_or-set_same next g (get_or first n 0) 0 (omega (arith, l.wide))) ∙ l.heads n small
         ∙ ap (λ o. find (meets C p o) (numbers_from C (g + 1))) (sym e) ∙ ap (λ z. find (meets C p (net_at C p z)) (numbers_from C (z + 1))) (sym same))
-        (λ ne. get_or-set_other next g h (get_or first n None) None ne ∙ l.links h (omega arith) b)
+        (λ ne. ap named (get_or-set_other next g h (get_or first n 0) 0 ne) ∙ l.links h (omega arith) b)
         (cases_eq h g);
-    blank = λ h below. get_or-set_other next g h (get_or first n None) None (λ same. omega arith) ∙ l.blank h (omega arith);
+    blank = λ h below. get_or-set_other next g h (get_or first n 0) 0 (λ same. omega arith) ∙ l.blank h (omega arith);
   }
 
   pub linked_past : net_at C p g ≡ None → Linked C p g first next
@@ -116,7 +117,7 @@ module _ (C : Board) (p : Pin) (g : ℕ) (first next : List (Option ℕ)) (lt : 
     wide = l.wide;
     heads = λ m h. l.heads m h ∙ sym (step (Some m) ∙ ap (λ o. cond (same_net o (Some m)) (Some g) (find (meets C p (Some m)) (numbers_from C (g + 1)))) e);
     links = λ h a b. ⊎_elim
-        (λ same. ap (λ z. get_or next z None) same ∙ l.blank g (omega arith) ∙ sym (never_met C p (numbers_from C (g + 1)))
+        (λ same. ap (λ z. named (get_or next z 0)) same ∙ ap named (l.blank g (omega arith)) ∙ sym (never_met C p (numbers_from C (g + 1)))
         ∙ ap (λ o. find (meets C p o) (numbers_from C (g + 1))) (sym e) ∙ ap (λ z. find (meets C p (net_at C p z)) (numbers_from C (z + 1))) (sym same))
         (λ ne. l.links h (omega arith) b)
         (cases_eq h g);

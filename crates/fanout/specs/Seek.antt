@@ -1,5 +1,5 @@
 -- The gates that meet a net. Assumes nothing.
-use Rattle.std.specs.Prelude.{◌≡◌, ℕ, ◌+◌, ◌-◌, ◌<◌, Bool, false, List, filter, find, Some, None, Option, ◌==◌, slice_index_or}
+use Rattle.std.specs.Prelude.{◌≡◌, ℕ, ◌+◌, ◌-◌, ◌<◌, Bool, false, List, filter, find, Some, None, Option, ◌==◌, nat_lt, slice_index, slice_index_or}
 use Rattle.std.specs.Bool.{then_some}
 use Rattle.std.specs.List.{range_with_len}
 use Rattle.netlist.specs.declared.gate.Gate.{Gate}
@@ -46,13 +46,17 @@ gates_at C p n = filter (meets C p (Some n)) (numbers_from C 0)
 abbrev pub gates_behind : Board → Pin → ℕ → List ℕ
 gates_behind C p g = filter (meets C p (net_at C p g)) (numbers_from C (g + 1))
 
+-- the gate that an entry of a chain names: 1,024 is none
+abbrev pub named : ℕ → Option ℕ
+named entry = then_some (nat_lt entry 1024) entry
+
 -- for each net the first gate that meets it at the pin
-abbrev pub Firsts : Board → Pin → List (Option ℕ) → Type 0
-Firsts C p first = (n : ℕ) → n < 1024 → slice_index_or first n None ≡ find (meets C p (Some n)) (numbers_from C 0)
+abbrev pub Firsts : Board → Pin → List ℕ → Type 0
+Firsts C p first = (n : ℕ) → n < 1024 → named (slice_index first n) ≡ find (meets C p (Some n)) (numbers_from C 0)
 
 -- for each gate the next that meets the same net as it at the pin
-abbrev pub Nexts : Board → Pin → List (Option ℕ) → Type 0
-Nexts C p next = (g : ℕ) → g < gate_count C → slice_index_or next g None ≡ find (meets C p (net_at C p g)) (numbers_from C (g + 1))
+abbrev pub Nexts : Board → Pin → List ℕ → Type 0
+Nexts C p next = (g : ℕ) → g < gate_count C → named (slice_index next g) ≡ find (meets C p (net_at C p g)) (numbers_from C (g + 1))
 
 -- every gate that does not stand in the set has planned what it gives on the levels
 abbrev pub Idle : {V : Type 0} → Logic V → Board → List V → List V → List ℕ → Type 0

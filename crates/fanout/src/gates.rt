@@ -1,4 +1,5 @@
 ghost use Rattle.std.specs.Prelude.{◌≡◌, ℕ, ◌<◌, Some};
+ghost use Rattle.fanout.specs.Seek.{named};
 
 use crate::pin::Pin;
 use crate::wiring::Wiring;
@@ -24,7 +25,14 @@ impl<'a> Iterator for GatesAt<'a> {
 
     fn next(&mut self) -> Option<u16> {
         let g = self.at?;
-        self.at = self.wiring.chain(self.pin).next[g as usize];
+        self.at = named(self.wiring.chain(self.pin).next[g as usize]);
         Some(g)
     }
+}
+
+// The gate that an entry of a chain names.
+pub(crate) fn named(entry: u16) -> Option<u16>
+    ensures { result ≡ named entry }
+{
+    (entry < 1024).then_some(entry)
 }

@@ -2,7 +2,7 @@ ghost use Rattle.std.specs.Prelude.{◌≡◌, ℕ, ◌<◌, length, IfSome};
 ghost use Rattle.netlist.specs.Looked.{contents};
 ghost use Rattle.fanout.specs.Seek.{Firsts, Nexts, gates_at, pin_net};
 
-use crate::gates::GatesAt;
+use crate::gates::{GatesAt, named};
 use crate::pin::Pin;
 use crate::wiring::{Chain, Wiring};
 use netlist::gate::Gate;
@@ -28,12 +28,12 @@ fn link(net: &Netlist, pin: Pin) -> Chain
     ensures heads { Firsts (contents net.now) pin result.first }
     ensures links { Nexts (contents net.now) pin result.next }
 {
-    let mut first = [None; 1024];
-    let mut next = [None; 1024];
+    let mut first = [1024u16; 1024];
+    let mut next = [1024u16; 1024];
     for g in (0..net.head.gates).rev() {
         if let Some(n) = net_at(net.gates[g as usize], pin) {
             next[g as usize] = first[n as usize];
-            first[n as usize] = Some(g);
+            first[n as usize] = g;
         }
     }
     Chain { first, next }
@@ -77,7 +77,7 @@ impl Wiring {
         GatesAt {
             wiring: self,
             pin,
-            at: self.chain(pin).first[n as usize],
+            at: named(self.chain(pin).first[n as usize]),
         }
     }
 }

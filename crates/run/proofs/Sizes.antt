@@ -37,15 +37,15 @@ last k e b = sum (up k e) e k b (up_le k e)
 most : (a b : ℕ) → a ≤ 16 → b ≤ 16 → max a b ≤ 16
 most a b h k = omega arith
 
--- a calendar of size c, a wiring of 36,872 bytes, two flags, four tables of 1,024 values of size s, and two numbers
+-- a calendar of size c, a wiring of 24,584 bytes, two flags, four tables of 1,024 values of size s, and two numbers
 pub run_fits : (a a' c v s : ℕ) → a ≤ 16 → a' ≤ 16 → c ≤ 1048576 → v ≤ 16 → s ≤ 64 →
-    up (max a (max 2 (max 1 (max 1 (max v (max v (max v (max v 8)))))))) (up 8 (up 4 (up v (up v (up v (up v (up 1 (up 1 (up 2 (up a' 0 + c) + 36872) + 1) + 1) + 1024 * s) + 1024 * s) + 1024 * s) + 1024 * s) + 4) + 8) < 9223372036854775808
+    up (max a (max 2 (max 1 (max 1 (max v (max v (max v (max v 8)))))))) (up 8 (up 4 (up v (up v (up v (up v (up 1 (up 1 (up 2 (up a' 0 + c) + 24584) + 1) + 1) + 1024 * s) + 1024 * s) + 1024 * s) + 1024 * s) + 4) + 8) < 9223372036854775808
 run_fits a a' c v s ha ha' hc hv hs =
     let table : 1024 * s ≤ 65536 = omega arith in
     let step = most a (max 2 (max 1 (max 1 (max v (max v (max v (max v 8))))))) ha
     (most 2 _ (lit≤ tt) (most 1 _ (lit≤ tt) (most 1 _ (lit≤ tt) (most v _ hv (most v _ hv (most v _ hv (most v 8 hv (lit≤ tt)))))))) in
     let e₁ = next a' 0 0 c 1048576 ha' (lit≤ tt) hc in
-    let e₂ = next 2 _ _ 36872 36872 (lit≤ tt) e₁ (lit≤ tt) in
+    let e₂ = next 2 _ _ 24584 24584 (lit≤ tt) e₁ (lit≤ tt) in
     let e₃ = next 1 _ _ 1 1 (lit≤ tt) e₂ (lit≤ tt) in
     let e₄ = next 1 _ _ 1 1 (lit≤ tt) e₃ (lit≤ tt) in
     let e₅ = next v _ _ (1024 * s) 65536 hv e₄ table in

@@ -1,5 +1,5 @@
 -- What each call of a run promises, over the run itself.
-use Rattle.std.specs.Prelude.{◌≡◌, ℕ, ◌+◌, ◌≤◌, Bool, true, false, cond, ◌&&◌, ◌↔◌, List, [], ◌∷◌, length, take, drop, ok_or, Ok, Err, Option, Result, ◌==◌, nat_le}
+use Rattle.std.specs.Prelude.{◌≡◌, ℕ, ◌+◌, ◌≤◌, Bool, true, false, ◌&&◌, ◌↔◌, List, [], ◌∷◌, length, take, drop, ok_or, Ok, Err, Option, Result, ◌==◌, nat_le}
 use Rattle.std.specs.Bool.{then_some}
 use Rattle.std.specs.List.{flat_map, ContainsAt as List-has}
 use Rattle.logic.specs.declared.family.Family.{Ghosts as Family}

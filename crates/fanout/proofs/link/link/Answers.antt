@@ -1,7 +1,6 @@
-use Rattle.std.proofs.Common.{◌≡◌, ℕ, ◌+◌, ◌-◌, ◌<◌, ◌≤◌, Some, None, sym, ap, ◌∙◌, subst, arith}
+use Rattle.std.proofs.Common.{◌≡◌, ◌+◌, ◌-◌, ◌<◌, Some, None, sym, ap, ◌∙◌, subst, arith}
 use Rattle.netlist.specs.Looked.{contents}
 use Rattle.netlist.proofs.Contents.{gate_count as gates-count, gate_is}
-use Rattle.signal.specs.Circuit.{gate_count}
 use Rattle.fanout.specs.Seek.{pin_net, net_at}
 use Rattle.fanout.proofs.Chains.{Linked, linked_none, linked_more, linked_past}
 use Rattle.fanout.proofs.link.link.Goals as goal

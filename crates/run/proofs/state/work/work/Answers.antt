@@ -1,4 +1,3 @@
-use Rattle.std.proofs.Common.{sym, ◌∙◌}
 use Rattle.run.proofs.state.work.work.Goals as goal
 
 pub returns-then-calm : goal.returns-then-calm
