@@ -2,6 +2,11 @@
 use Rattle.std.specs.Prelude.{◌≡◌, ℕ, ◌/◌, ◌%◌, ◌<◌, Bool, true, false, ◌&&◌, List, Some, None, Option, ◌==◌, nat_lt, slice_index}
 use Rattle.std.specs.Int.{bit_at}
 
+-- a set, by its words, and the word that says which of them are not 0
+pub record Numbers : Type 0 where
+  pub words : List ℕ
+  pub used : ℕ
+
 -- the bit that says whether
 abbrev pub flag : Bool → ℕ
 flag true = 1

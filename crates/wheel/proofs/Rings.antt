@@ -3,16 +3,16 @@ use Rattle.std.proofs.Common.{◌≡◌, ℕ, ◌+◌, ◌*◌, ◌%◌, ◌<◌
 use Rattle.std.proofs.lemmas.Bool.{and_from, cond-true, cond-false, cases_eq, cases_lt, both_ways, eq-eqb}
 use Rattle.calendar.specs.Table.{slot}
 use Rattle.calendar.proofs.Tables.{one_place, in_table}
-use Rattle.number_set.specs.declared.set.NumberSet.{NumberSet}
+use Rattle.number_set.specs.Members.{Numbers}
 use Rattle.wheel.specs.Roster.{present, Least}
 use Rattle.wheel.specs.Rings.{table, Inside}
 use Rattle.wheel.proofs.Rosters.{no_match}
 
 -- the roster after one bit was set as `on` says
-abbrev pub There : List NumberSet → List NumberSet → ℕ → ℕ → Bool → Type 0
+abbrev pub There : List Numbers → List Numbers → ℕ → ℕ → Bool → Type 0
 There ws vs row gate on = (r g : ℕ) → r < 65 → g < 1024 → present vs r g ≡ cond (eqb r row && eqb g gate) on (present ws r g)
 
-module _ (G : ℕ) (ws vs : List NumberSet) (codes : List ℕ) (few : G ≤ 1024) (t g : ℕ) (in-gates : g < G) where
+module _ (G : ℕ) (ws vs : List Numbers) (codes : List ℕ) (few : G ≤ 1024) (t g : ℕ) (in-gates : g < G) where
   pub removed : There ws vs (t % 65) g false → (u h : ℕ) → h < G → table G vs codes u h ≡ cond (eqb (u % 65) (t % 65) && eqb h g) None (table G ws codes u h)
   removed there u h k =
       ap (λ b. cond b (Some (get_or codes (slot G u h) 0)) None) (there (u % 65) h (omega arith) (omega arith))
@@ -45,7 +45,7 @@ module _ (G : ℕ) (ws vs : List NumberSet) (codes : List ℕ) (few : G ≤ 1024
   still_inside on there was = λ r h k.
       there r h k.0 k.2 ∙ cond-false (eqb r (t % 65) && eqb h g) on (present ws r h) (no_match r h (t % 65) g (λ m. omega arith)) ∙ was r h k
 
-module _ (G : ℕ) (ws : List NumberSet) (codes : List ℕ) (few : G ≤ 1024) (inside : Inside G ws) (t : ℕ) where
+module _ (G : ℕ) (ws : List Numbers) (codes : List ℕ) (few : G ≤ 1024) (inside : Inside G ws) (t : ℕ) where
   pub inside_gate : (g : ℕ) → g < 1024 → present ws (t % 65) g ≡ true → g < G
   inside_gate g h p = ⊎_elim (λ l. l) (λ l. absurd (both_ways (present ws (t % 65) g) (inside (t % 65) g (omega arith, l, h)) p)) (cases_lt g G)
 

@@ -3,8 +3,7 @@ use Rattle.std.proofs.Common.{◌≡◌, ℕ, zero, suc, ◌<◌, Bool, true, fa
 use Rattle.std.specs.Prelude.{slice_get, is_some}
 use Rattle.std.proofs.lemmas.Bool.{and_left, and_parts, cond-false, cases_eq, cases_Bool, eqb-true, eq-eqb, ne_eqb}
 use Rattle.std.proofs.lemmas.Option.{slice_get-get_or}
-use Rattle.number_set.specs.declared.set.NumberSet.{NumberSet}
-use Rattle.number_set.specs.Members.{member}
+use Rattle.number_set.specs.Members.{Numbers, member}
 use Rattle.number_set.specs.Members as number
 use Rattle.wheel.specs.Roster.{has_member, present, Least}
 
@@ -24,7 +23,7 @@ other_place (y ∷ ys) (suc i) zero x n = refl
 other_place (y ∷ ys) (suc i) (suc j) x n = other_place ys i j x (λ e. n (ap suc e))
 
 -- what a row's set answers, of the roster
-module _ (sets : List NumberSet) (row : ℕ) (d : NumberSet) (in-rows : row < length sets) where
+module _ (sets : List Numbers) (row : ℕ) (d : Numbers) (in-rows : row < length sets) where
   pub row_member : (g : ℕ) → present sets row g ≡ member (get_or sets row d).words g
   row_member g = ap (λ o. has_member o g) (slice_get-get_or sets row d in-rows)
 
@@ -33,7 +32,7 @@ module _ (sets : List NumberSet) (row : ℕ) (d : NumberSet) (in-rows : row < le
   row_least (Some g) least = (least.0, row_member g ∙ least.1, λ h k. row_member h ∙ least.2 h k)
 
   -- the row of a set that was changed, and the others
-  pub set_there : (gate : ℕ) (s : NumberSet) (on : Bool) → ((m : ℕ) → m < 1024 → member s.words m ≡ cond (eqb m gate) on (member (get_or sets row d).words m)) →
+  pub set_there : (gate : ℕ) (s : Numbers) (on : Bool) → ((m : ℕ) → m < 1024 → member s.words m ≡ cond (eqb m gate) on (member (get_or sets row d).words m)) →
       (r g : ℕ) → g < 1024 → present (set sets row s) r g ≡ cond (eqb r row && eqb g gate) on (present sets r g)
   set_there gate s on told r g k = ⊎_elim
       (λ e. ap (λ z. has_member (slice_get (set sets row s) z) g) e
@@ -45,10 +44,10 @@ module _ (sets : List NumberSet) (row : ℕ) (d : NumberSet) (in-rows : row < le
       ∙ sym (cond-false (eqb r row && eqb g gate) on (present sets r g) (and_left (eqb r row) (eqb g gate) (ne_eqb r row n))))
       (cases_eq r row)
 
-pub least_some : (sets : List NumberSet) (row : ℕ) (o : Option ℕ) → Least sets row o → is_some o ≡ true → (g : ℕ) × Least sets row (Some g)
+pub least_some : (sets : List Numbers) (row : ℕ) (o : Option ℕ) → Least sets row o → is_some o ≡ true → (g : ℕ) × Least sets row (Some g)
 least_some sets row (Some g) least e = (g, least)
 least_some sets row None least e = absurd (cc)
 
-pub least_none : (sets : List NumberSet) (row : ℕ) (o : Option ℕ) → Least sets row o → is_some o ≡ false → Least sets row None
+pub least_none : (sets : List Numbers) (row : ℕ) (o : Option ℕ) → Least sets row o → is_some o ≡ false → Least sets row None
 least_none sets row None least e = least
 least_none sets row (Some g) least e = absurd (cc)

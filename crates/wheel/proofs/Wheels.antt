@@ -14,12 +14,11 @@ use Rattle.calendar.proofs.Faults.{put_stands}
 use Rattle.calendar.proofs.Sound.{rising_placed, due_parts}
 use Rattle.calendar.proofs.Tables.{same_table, code_at_placed, rows_rise, rows_at, rows_gate, rows_out, none_before, rows_none, rows_found, waits_none, waits_some, first_code, one_tick, round, sooner, begins}
 use Rattle.calendar.proofs.Waiting.{take_table, before_first}
-use Rattle.number_set.specs.declared.set.NumberSet.{NumberSet}
-use Rattle.number_set.specs.Members.{member}
+use Rattle.number_set.specs.Members.{Numbers, member}
 use Rattle.wheel.specs.Roster.{present, FirstWait}
 use Rattle.wheel.specs.Rings.{table, wheel_agenda, Inside}
 use Rattle.wheel.proofs.Rings.{There, put_there, removed, row_empty, row_first}
-use Rattle.wheel.proofs.Rosters.{no_match, row_member}
+use Rattle.wheel.proofs.Rosters.{no_match}
 
 eq_sym : (a b : ℕ) → eqb a b ≡ eqb b a
 eq_sym a b = grind (arith, nat_tests)
@@ -94,17 +93,17 @@ module _ (f : ℕ → ℕ → Option ℕ) (around : (u v h : ℕ) → u % 65 ≡
   pub turn_rows : rows f t 65 G ≡ rows f today 65 G
   turn_rows = same_table _ _ (rows_rise f t 65 G).0 (rows_rise f today 65 G).0 turned_list
 
-pub around : (G : ℕ) (ws : List NumberSet) (codes : List ℕ) (u v h : ℕ) → u % 65 ≡ v % 65 → table G ws codes u h ≡ table G ws codes v h
+pub around : (G : ℕ) (ws : List Numbers) (codes : List ℕ) (u v h : ℕ) → u % 65 ≡ v % 65 → table G ws codes u h ≡ table G ws codes v h
 around G ws codes u v h e = ap (λ z. cond (present ws z h) (Some (get_or codes (z * G + h) 0)) None) e
 
 -- ---- a new wheel
 
-zeros : (s : NumberSet) (n r : ℕ) → ((m : ℕ) → m < 1024 → member s.words m ≡ false) → (g : ℕ) → g < 1024 → present (replicate n s) r g ≡ false
+zeros : (s : Numbers) (n r : ℕ) → ((m : ℕ) → m < 1024 → member s.words m ≡ false) → (g : ℕ) → g < 1024 → present (replicate n s) r g ≡ false
 zeros s zero r none g h = refl
 zeros s (suc n) zero none g h = none g h
 zeros s (suc n) (suc r) none g h = zeros s n r none g h
 
-module _ (s : NumberSet) (none : (m : ℕ) → m < 1024 → member s.words m ≡ false) (G : ℕ) (few : G ≤ 1024) where
+module _ (s : Numbers) (none : (m : ℕ) → m < 1024 → member s.words m ≡ false) (G : ℕ) (few : G ≤ 1024) where
   pub new_inside : Inside G (replicate 65 s)
   new_inside = λ r g k. zeros s 65 r none g k.2
 
@@ -180,7 +179,7 @@ module _ (f : ℕ → ℕ → Option ℕ) (G today : ℕ) (ok : all_due today G 
   first_alone = none_sooner f G today e.tick ok soon_is e v is refl
 
 -- where nothing waits before a tick, the soonest is the first row with a gate from there on
-pub soonest_left : (G : ℕ) (sets : List NumberSet) (codes : List ℕ) (few : G ≤ 1024) (inside : Inside G sets) (today t : ℕ) → today ≤ t →
+pub soonest_left : (G : ℕ) (sets : List Numbers) (codes : List ℕ) (few : G ≤ 1024) (inside : Inside G sets) (today t : ℕ) → today ≤ t →
     ((u h : ℕ) → today ≤ u → u < t → h < G → table G sets codes u h ≡ None) → (o : Option ℕ) → FirstWait sets t (today + 65) o → o ≡ first_tick (rows (table G sets codes) today 65 G)
 soonest_left G sets codes few inside today t low clear None none = sym (ap first_tick (rows_none (table G sets codes) today 65 G (λ u h a b k. ⊎_elim
     (λ l. clear u h a l k)
@@ -219,26 +218,26 @@ put_allowed a e u h = go (leb a.gates e.gate) (leb e.tick a.today) (ltb (a.today
         let room = leb-false a.capacity (length a.waiting) j in
         (gate, low, high, i, room, ap (λ o. unless o a (with_waiting a (placed before e a.waiting))) (put_stands a e gate low high i room))
 
-module _ (today G : ℕ) (ws : List NumberSet) (codes : List ℕ) (few : G ≤ 1024) where
+module _ (today G : ℕ) (ws : List Numbers) (codes : List ℕ) (few : G ≤ 1024) where
   -- an entry waits where its gate stands in the set of its tick's row
-  pub waits_is : (d : NumberSet) (e : Entry) → length ws ≡ 65 → e.gate < G → today < e.tick → e.tick ≤ today + 64 → waits e (rows (table G ws codes) today 65 G) ≡ member (get_or ws (e.tick % 65) d).words e.gate
-  waits_is d e long k low high =
+  pub waits_is : (e : Entry) → e.gate < G → today < e.tick → e.tick ≤ today + 64 → waits e (rows (table G ws codes) today 65 G) ≡ present ws (e.tick % 65) e.gate
+  waits_is e k low high =
       let f : ℕ → ℕ → Option ℕ = table G ws codes in
-      waits_where f f G today e.tick e.gate k (omega arith) (omega arith) e.code ∙ is_there (present ws (e.tick % 65) e.gate) ∙ row_member ws (e.tick % 65) d (omega arith) e.gate
+      waits_where f f G today e.tick e.gate k (omega arith) (omega arith) e.code ∙ is_there (present ws (e.tick % 65) e.gate)
     where
       is_there : (b : Bool) → is_some (cond b (Some (get_or codes (slot G e.tick e.gate) 0)) None) ≡ b
       is_there true = refl
       is_there false = refl
 
   -- what a put and a take leave
-  pub put_leaves : (vs : List NumberSet) (e : Entry) (i : ℕ) (u : Unit {0}) → put_answer (wheel_agenda today G ws codes) e ≡ Ok u → i ≡ slot G e.tick e.gate → 65 * G ≤ length codes → There ws vs (e.tick % 65) e.gate true →
+  pub put_leaves : (vs : List Numbers) (e : Entry) (i : ℕ) (u : Unit {0}) → put_answer (wheel_agenda today G ws codes) e ≡ Ok u → i ≡ slot G e.tick e.gate → 65 * G ≤ length codes → There ws vs (e.tick % 65) e.gate true →
       rows (table G vs (set codes i e.code)) today 65 G ≡ placed before e (rows (table G ws codes) today 65 G)
   put_leaves vs e i u ok at wide there =
       let a : Agenda = wheel_agenda today G ws codes in
       let allowed = put_allowed a e u ok in
       put_rows (table G ws codes) (table G vs (set codes i e.code)) G today e.tick e.gate allowed.0 (omega arith) (omega arith) e.code allowed.3 (put_there G ws vs codes few e.tick e.gate allowed.0 e.code i at wide there)
 
-  pub take_leaves : (vs : List NumberSet) (e : Entry) (v : List Entry) → all_due today G (rows (table G ws codes) today 65 G) ≡ true → rows (table G ws codes) today 65 G ≡ e ∷ v → There ws vs (e.tick % 65) e.gate false →
+  pub take_leaves : (vs : List Numbers) (e : Entry) (v : List Entry) → all_due today G (rows (table G ws codes) today 65 G) ≡ true → rows (table G ws codes) today 65 G ≡ e ∷ v → There ws vs (e.tick % 65) e.gate false →
       (rows (table G vs codes) today 65 G ≡ v) × ((u h : ℕ) → today ≤ u → u < e.tick → h < G → table G vs codes u h ≡ None)
   take_leaves vs e v ok is there =
       let f : ℕ → ℕ → Option ℕ = table G ws codes in

@@ -15,11 +15,25 @@ pub(crate) fn set_gate(roster: &mut [NumberSet; ROWS], tick: u32, gate: u16, on:
 }
 
 // Whether a gate stands in the row of a tick.
+pub(crate) fn stands(roster: &[NumberSet; ROWS], tick: u32, gate: u16) -> bool
+    ensures { result ≡ present roster.now (tick % 65) gate }
+{
+    roster[(tick % 65) as usize].contains(gate)
+}
+
+// The least gate in the row of a tick.
+pub(crate) fn first_gate(roster: &[NumberSet; ROWS], tick: u32) -> Option<u16>
+    ensures { Least roster.now (tick % 65) result }
+{
+    roster[(tick % 65) as usize].first()
+}
+
+// Whether any gate stands in the row of a tick.
 fn waits(roster: &[NumberSet; ROWS], tick: u32) -> bool
     ensures some { result ≡ true → (g : ℕ) × Least roster.now (tick % 65) (Some g) }
     ensures none { result ≡ false → Least roster.now (tick % 65) None }
 {
-    roster[(tick % 65) as usize].first().is_some()
+    first_gate(roster, tick).is_some()
 }
 
 // The first tick from `from` on, and before `end`, in whose row a gate stands: a look at 65 rows at most.

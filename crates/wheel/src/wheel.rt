@@ -3,7 +3,7 @@ ghost use Rattle.calendar.specs.Agenda.{put_answer, first, first_tick, sound, ne
 ghost use Rattle.calendar.specs.Table.{slot};
 ghost use Rattle.wheel.specs.Rings.{wheel_agenda, Inside};
 
-use crate::roster::{ROWS, first_wait, set_gate};
+use crate::roster::{ROWS, first_gate, first_wait, set_gate, stands};
 use calendar::calendar::Calendar;
 use calendar::checks::{check_slot, check_turn};
 use calendar::entry::{CalendarFault, Entry, Reason};
@@ -59,7 +59,7 @@ impl<'a> Wheel<'a> {
         ensures { result ≡ put_answer (wheel_agenda self.now.today self.now.gates self.now.roster self.now.codes.now) e }
     {
         check_slot(self.today, self.gates, e)?;
-        if self.roster[(e.tick % 65) as usize].contains(e.gate) {
+        if stands(&self.roster, e.tick, e.gate) {
             return Err(Reason::Twice.at(self.today));
         }
         if self.count >= self.capacity() {
@@ -73,7 +73,7 @@ impl<'a> Wheel<'a> {
         ensures { result ≡ first (wheel_agenda self.now.today self.now.gates self.now.roster self.now.codes.now).waiting }
     {
         let tick = self.soon?;
-        let gate = self.roster[(tick % 65) as usize].first()?;
+        let gate = first_gate(&self.roster, tick)?;
         let code = self.codes[self.place(tick, gate)];
         Some(Entry { tick, gate, code })
     }

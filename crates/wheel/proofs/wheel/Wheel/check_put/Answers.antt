@@ -14,14 +14,14 @@ returns-in_err-check_slot c =
     let p = err_from_is_err_and c.from_residual.result c.from_residual.ensures.1 in
     rw (p.1, p.2) (sym c.in_err-check_slot.was ∙ told)
 
-pub returns-then-contains : goal.returns-then-contains
-returns-then-contains c =
+pub returns-then-stands : goal.returns-then-stands
+returns-then-stands c =
     let w = c.args.self.now in
     let a = wheel_agenda w.today w.gates w.roster w.codes.now in
     let e = c.args.e in
     let place = c.in_ok-check_slot.ensures.ok.0 refl in
-    let waits = waits_is w.today w.gates w.roster w.codes.now w.few c.index-self-e.result e w.sets place.0 place.1 place.2 ∙ sym c.contains.ensures.member in
-    ap Err c.at.ensures ∙ sym (ap (outcome a) (put_twice a e place.0 place.1 place.2 (waits ∙ c.if-contains.true)))
+    let waits = waits_is w.today w.gates w.roster w.codes.now w.few e place.0 place.1 place.2 ∙ sym c.stands.ensures in
+    ap Err c.at.ensures ∙ sym (ap (outcome a) (put_twice a e place.0 place.1 place.2 (waits ∙ c.if-stands.true)))
 
 pub returns-then-self-capacity : goal.returns-then-self-capacity
 returns-then-self-capacity c =
@@ -29,8 +29,8 @@ returns-then-self-capacity c =
     let a = wheel_agenda w.today w.gates w.roster w.codes.now in
     let e = c.args.e in
     let place = c.in_ok-check_slot.ensures.ok.0 refl in
-    let waits = waits_is w.today w.gates w.roster w.codes.now w.few c.index-self-e.result e w.sets place.0 place.1 place.2 ∙ sym c.contains.ensures.member in
-    ap Err c.at-then-self-capacity.ensures ∙ sym (ap (outcome a) (put_full a e place.0 place.1 place.2 (waits ∙ c.if-contains.false) (omega (arith, w.counted))))
+    let waits = waits_is w.today w.gates w.roster w.codes.now w.few e place.0 place.1 place.2 ∙ sym c.stands.ensures in
+    ap Err c.at-then-self-capacity.ensures ∙ sym (ap (outcome a) (put_full a e place.0 place.1 place.2 (waits ∙ c.if-stands.false) (omega (arith, w.counted))))
 
 pub returns : goal.returns
 returns c =
@@ -38,5 +38,5 @@ returns c =
     let a = wheel_agenda w.today w.gates w.roster w.codes.now in
     let e = c.args.e in
     let place = c.in_ok-check_slot.ensures.ok.0 refl in
-    let waits = waits_is w.today w.gates w.roster w.codes.now w.few c.index-self-e.result e w.sets place.0 place.1 place.2 ∙ sym c.contains.ensures.member in
-    sym (ap (outcome a) (put_stands a e place.0 place.1 place.2 (waits ∙ c.if-contains.false) (omega (arith, w.counted))))
+    let waits = waits_is w.today w.gates w.roster w.codes.now w.few e place.0 place.1 place.2 ∙ sym c.stands.ensures in
+    sym (ap (outcome a) (put_stands a e place.0 place.1 place.2 (waits ∙ c.if-stands.false) (omega (arith, w.counted))))
