@@ -1,6 +1,8 @@
 // Well-formed boards: loops, several drivers a net, tri-states, pulls, and ports that gates drive too.
 use crate::random::Random;
 use std::alloc::{AllocError, Global};
+use vectors::laid;
+use vectors::laid::{Gate, Kind};
 
 // A netlist file, and the numbers in it that a script needs.
 #[derive(Drop)]
@@ -17,76 +19,95 @@ pub struct Board {
 // What a board is made of mostly.
 #[derive(Clone, Copy)]
 struct Style {
-    kinds: &'static [u8],
+    kinds: &'static [Kind],
     longest: u32,
 }
 
-const ANY: &[u8] = &[1, 2, 3, 4, 5, 6, 7, 8, 9, 10, 11];
+const ANY: &[Kind] = &[
+    Kind::Buffer,
+    Kind::Not,
+    Kind::And,
+    Kind::Or,
+    Kind::Xor,
+    Kind::Nand,
+    Kind::Nor,
+    Kind::Xnor,
+    Kind::Tri,
+    Kind::PullUp,
+    Kind::PullDown,
+];
 
-const RESTLESS: &[u8] = &[2, 2, 2, 6, 7, 8, 5, 3, 4, 1];
+const RESTLESS: &[Kind] = &[
+    Kind::Not,
+    Kind::Not,
+    Kind::Not,
+    Kind::Nand,
+    Kind::Nor,
+    Kind::Xnor,
+    Kind::Xor,
+    Kind::And,
+    Kind::Or,
+    Kind::Buffer,
+];
 
-const BUSES: &[u8] = &[9, 9, 9, 9, 10, 11, 2, 3, 1, 5];
+const BUSES: &[Kind] = &[
+    Kind::Tri,
+    Kind::Tri,
+    Kind::Tri,
+    Kind::Tri,
+    Kind::PullUp,
+    Kind::PullDown,
+    Kind::Not,
+    Kind::And,
+    Kind::Buffer,
+    Kind::Xor,
+];
 
 fn any_style(random: &mut Random) -> Style {
-    match random.below(5) {
-        0 => Style {
-            kinds: ANY,
-            longest: 64,
-        },
-        1 => Style {
-            kinds: RESTLESS,
-            longest: 2,
-        },
-        2 => Style {
-            kinds: RESTLESS,
-            longest: 9,
-        },
-        3 => Style {
-            kinds: BUSES,
-            longest: 5,
-        },
-        _ => Style {
-            kinds: ANY,
-            longest: 6,
-        },
-    }
-}
-
-fn push_word(out: &mut Vec<u8>, n: u32) -> Result<(), AllocError> {
-    out.extend_from_slice(&[(n / 256 % 256) as u8, (n % 256) as u8])
+    let (kinds, longest) = match random.below(5) {
+        0 => (ANY, 64),
+        1 => (RESTLESS, 2),
+        2 => (RESTLESS, 9),
+        3 => (BUSES, 5),
+        _ => (ANY, 6),
+    };
+    Style { kinds, longest }
 }
 
 // Now and then the longest delay there is.
-fn delay(random: &mut Random, style: Style) -> u32 {
+fn delay(random: &mut Random, style: Style) -> u16 {
     if random.once_in(24) {
         64
     } else {
-        random.between(1, style.longest)
+        narrow(random.between(1, style.longest))
     }
 }
 
-// A gate's record; inputs that its kind does not use are 0.
-fn push_gate(
-    random: &mut Random,
-    style: Style,
-    nets: u32,
-    net: u32,
-    out: &mut Vec<u8>,
-) -> Result<u32, AllocError> {
-    let kind = random.pick(style.kinds);
-    let a = if kind < 10 { random.below(nets) } else { 0 };
-    let b = if kind > 2 && kind < 10 {
+// Nets and delays are small; a file has 16 bits for each.
+fn narrow(n: u32) -> u16 {
+    u16::try_from(n).unwrap_or(u16::MAX)
+}
+
+// A gate that drives a net; inputs that its kind does not use are 0.
+fn any_gate(random: &mut Random, style: Style, nets: u32, out: u16) -> Gate {
+    let kind = random.pick(style.kinds).unwrap_or(Kind::Buffer);
+    let a = if kind.reads_a() {
         random.below(nets)
     } else {
         0
     };
-    let late = delay(random, style);
-    out.extend_from_slice(&[kind])?;
-    push_word(out, a)?;
-    push_word(out, b)?;
-    push_word(out, net)?;
-    push_word(out, late)?;
-    Ok(late)
+    let b = if kind.reads_b() {
+        random.below(nets)
+    } else {
+        0
+    };
+    Gate {
+        kind,
+        a: narrow(a),
+        b: narrow(b),
+        out,
+        delay: delay(random, style),
+    }
 }
 
 // Each net behind the ports once, then any nets again: these are the gates' outputs.
@@ -96,19 +117,16 @@ fn outputs(
     nets: u32,
     ports: u32,
     more: u32,
-) -> Result<Vec<u32>, AllocError> {
-    let mut list = Vec::new(heap);
-    for net in ports..nets {
-        list.push(net)?;
-    }
+) -> Result<Vec<u16>, AllocError> {
+    let mut list: Vec<u16> = (ports..nets).map(narrow).collect(heap)?;
     for _ in 0..more {
-        list.push(random.below(nets))?;
+        list.push(narrow(random.below(nets)))?;
     }
     Ok(list)
 }
 
 // Swaps each element with one at or before it.
-fn shuffle(random: &mut Random, list: &mut [u32]) {
+fn shuffle(random: &mut Random, list: &mut [u16]) {
     for i in 0..list.len() {
         let n = u32::try_from(i).unwrap_or(0).saturating_add(1);
         let j = random.below(n) as usize;
@@ -124,15 +142,13 @@ fn watch_list(
     random: &mut Random,
     nets: u32,
     share: u32,
-) -> Result<Vec<u32>, AllocError> {
-    let mut list = Vec::new(heap);
-    for net in 0..nets {
-        if random.once_in(share) {
-            list.push(net)?;
-        }
-    }
+) -> Result<Vec<u16>, AllocError> {
+    let mut list: Vec<u16> = (0..nets)
+        .filter(|_| random.once_in(share))
+        .map(narrow)
+        .collect(heap)?;
     if list.is_empty() {
-        list.push(random.below(nets))?;
+        list.push(narrow(random.below(nets)))?;
     }
     Ok(list)
 }
@@ -155,39 +171,47 @@ fn size(random: &mut Random) -> u32 {
     }
 }
 
-fn push_head(
-    out: &mut Vec<u8>,
-    nets: u32,
-    ports: u32,
-    gates: u32,
-    watches: u32,
-) -> Result<(), AllocError> {
-    out.extend_from_slice(b"NLB")?;
-    push_word(out, 1)?;
-    push_word(out, nets)?;
-    push_word(out, ports)?;
-    push_word(out, gates)?;
-    push_word(out, watches)
+fn length<T>(list: &Vec<T>) -> u32 {
+    u32::try_from(list.len()).unwrap_or(0)
 }
 
-fn length(list: &Vec<u32>) -> u32 {
-    u32::try_from(list.len()).unwrap_or(0)
+impl Board {
+    fn laid_out(
+        heap: Global,
+        nets: u32,
+        ports: u32,
+        gates: &Vec<Gate>,
+        watches: &Vec<u16>,
+    ) -> Result<Board, AllocError> {
+        let late = gates.iter().map(|gate| u32::from(gate.delay));
+        Ok(Board {
+            bytes: laid::file(
+                heap,
+                narrow(nets),
+                narrow(ports),
+                gates.as_slice(),
+                watches.as_slice(),
+            )?,
+            nets,
+            ports,
+            gates: length(gates),
+            watches: length(watches),
+            delays: late.fold(0, |sum: u32, delay| sum.saturating_add(delay)),
+        })
+    }
 }
 
 // One gate that drives its own input: it never rests, so an advance of any length ends when the
 // trace buffer is full.
 pub fn restless(heap: Global) -> Result<Board, AllocError> {
-    let mut bytes = Vec::new(heap);
-    push_head(&mut bytes, 1, 0, 1, 1)?;
-    bytes.extend_from_slice(&[2, 0, 0, 0, 0, 0, 0, 0, 1, 0, 0])?;
-    Ok(Board {
-        bytes,
-        nets: 1,
-        ports: 0,
-        gates: 1,
-        watches: 1,
-        delays: 1,
-    })
+    let gate = Gate {
+        kind: Kind::Not,
+        a: 0,
+        b: 0,
+        out: 0,
+        delay: 1,
+    };
+    Board::laid_out(heap, 1, 0, &vec![in heap; gate]?, &vec![in heap; 0]?)
 }
 
 // A well-formed board.
@@ -201,24 +225,10 @@ pub fn made(heap: Global, random: &mut Random) -> Result<Board, AllocError> {
     let mut outs = outputs(heap, random, nets, ports, more)?;
     shuffle(random, outs.as_mut_slice());
     let share = random.between(1, 3);
-    let watched = watch_list(heap, random, nets, share)?;
-    let (gates, watches) = (length(&outs), length(&watched));
-    let mut bytes = Vec::new(heap);
-    push_head(&mut bytes, nets, ports, gates, watches)?;
-    let mut delays: u32 = 0;
-    for net in outs.iter() {
-        let late = push_gate(random, style, nets, *net, &mut bytes)?;
-        delays = delays.saturating_add(late);
-    }
-    for net in watched.iter() {
-        push_word(&mut bytes, *net)?;
-    }
-    Ok(Board {
-        bytes,
-        nets,
-        ports,
-        gates,
-        watches,
-        delays,
-    })
+    let watches = watch_list(heap, random, nets, share)?;
+    let gates = outs
+        .iter()
+        .map(|net| any_gate(random, style, nets, *net))
+        .collect(heap)?;
+    Board::laid_out(heap, nets, ports, &gates, &watches)
 }

@@ -3,6 +3,7 @@ use crate::board::Board;
 use crate::random::Random;
 use crate::value;
 use std::alloc::{AllocError, Global};
+use vectors::values::Values;
 
 // No commands, each for another reason; some are good in one family alone.
 const NONSENSE: &[&[u8]] = &[
@@ -47,16 +48,6 @@ const NONSENSE: &[&[u8]] = &[
     b"advance 1 advance 1 advance 1 advance 1",
 ];
 
-fn nonsense(random: &mut Random) -> &'static [u8] {
-    let n = u32::try_from(NONSENSE.len()).unwrap_or(0);
-    let at = random.below(n) as usize;
-    if at < NONSENSE.len() {
-        NONSENSE[at]
-    } else {
-        b""
-    }
-}
-
 // A number of a gate, a port or a net: mostly one that there is, else the first that there is not, or a huge one.
 pub fn place(random: &mut Random, count: u32) -> u32 {
     match random.below(24) {
@@ -77,19 +68,28 @@ pub fn ticks(random: &mut Random) -> u32 {
     }
 }
 
-// The number, with zeros in front now and then.
-fn push_number(
+// A command with a number, which has zeros in front now and then.
+fn numbered(heap: Global, random: &mut Random, word: &str, n: u32) -> Result<String, AllocError> {
+    if random.once_in(16) {
+        format!(in heap; "{word} {n:08}")
+    } else {
+        format!(in heap; "{word} {n}")
+    }
+}
+
+// A command with a number and the name of a value.
+fn valued(
     heap: Global,
     random: &mut Random,
-    out: &mut Vec<u8>,
+    word: &str,
     n: u32,
-) -> Result<(), AllocError> {
-    let digits = if random.once_in(16) {
-        format!(in heap; "{n:08}")?
-    } else {
-        format!(in heap; "{n}")?
-    };
-    out.extend_from_slice(digits.as_bytes())
+    values: Values,
+) -> Result<String, AllocError> {
+    let mut text = numbered(heap, random, word, n)?;
+    let name = value::name(heap, values, value::any(random, values))?;
+    text.push(' ')?;
+    text.push_str(name.as_str())?;
+    Ok(text)
 }
 
 // A command of the right form.
@@ -97,23 +97,26 @@ fn command(
     heap: Global,
     random: &mut Random,
     board: &Board,
-    pulls: bool,
-) -> Result<Vec<u8>, AllocError> {
-    let mut out = Vec::new(heap);
-    let (word, n, valued) = match random.below(8) {
-        0 => (b"wake ".as_slice(), place(random, board.gates), true),
-        1 | 2 | 3 => (b"drive ".as_slice(), place(random, board.ports), true),
-        4 | 5 => (b"advance ".as_slice(), ticks(random), false),
-        _ => (b"read ".as_slice(), place(random, board.nets), false),
-    };
-    out.extend_from_slice(word)?;
-    push_number(heap, random, &mut out, n)?;
-    if valued {
-        out.extend_from_slice(b" ")?;
-        let code = value::code(random, pulls);
-        value::push_name(&mut out, pulls, code)?;
+    values: Values,
+) -> Result<String, AllocError> {
+    match random.below(8) {
+        0 => {
+            let gate = place(random, board.gates);
+            valued(heap, random, "wake", gate, values)
+        }
+        1 | 2 | 3 => {
+            let port = place(random, board.ports);
+            valued(heap, random, "drive", port, values)
+        }
+        4 | 5 => {
+            let count = ticks(random);
+            numbered(heap, random, "advance", count)
+        }
+        _ => {
+            let net = place(random, board.nets);
+            numbered(heap, random, "read", net)
+        }
     }
-    Ok(out)
 }
 
 // Drops, doubles or changes one byte.
@@ -129,17 +132,14 @@ fn slip(random: &mut Random, line: &mut Vec<u8>) -> Result<(), AllocError> {
             let _ = line.remove(at);
         }
         1 => line.insert(at, b)?,
-        _ => line[at] = random.pick(b" 0189aZX-\r\x00\xff"),
+        _ => line[at] = random.pick(b" 0189aZX-\r\x00\xff").unwrap_or(0),
     }
     Ok(())
 }
 
 // A slip in a long number could ask for millions of ticks.
 fn may_slip(line: &[u8]) -> bool {
-    match line {
-        [b'a', ..] => line.len() <= 11,
-        _ => true,
-    }
+    !line.starts_with(b"a") || line.len() <= 11
 }
 
 // A line of a script, without its end.
@@ -147,12 +147,12 @@ pub fn line(
     heap: Global,
     random: &mut Random,
     board: &Board,
-    pulls: bool,
+    values: Values,
 ) -> Result<Vec<u8>, AllocError> {
     if random.once_in(12) {
-        return Vec::from_slice(heap, nonsense(random));
+        return Vec::from_slice(heap, random.pick(NONSENSE).unwrap_or(b""));
     }
-    let mut text = command(heap, random, board, pulls)?;
+    let mut text = command(heap, random, board, values)?.into_bytes();
     if may_slip(text.as_slice()) && random.once_in(16) {
         slip(random, &mut text)?;
     }

@@ -36,10 +36,8 @@ impl Random {
     // A number below `n`; 0 where there is none.
     pub fn below(&mut self, n: u32) -> u32 {
         let x = self.draw() >> 32;
-        if n == 0 {
-            return 0;
-        }
-        u32::try_from(x % u64::from(n)).unwrap_or(0)
+        let rest = x.checked_rem(u64::from(n)).unwrap_or(0);
+        u32::try_from(rest).unwrap_or(0)
     }
 
     // A number from `low` to `high`.
@@ -53,10 +51,9 @@ impl Random {
         self.below(n) == 0
     }
 
-    // One of the bytes.
-    pub fn pick(&mut self, bytes: &[u8]) -> u8 {
-        let n = u32::try_from(bytes.len()).unwrap_or(u32::MAX);
-        let at = self.below(n) as usize;
-        bytes.get(at).copied().unwrap_or(0)
+    // One of the items; none where there is none.
+    pub fn pick<T: Copy>(&mut self, items: &[T]) -> Option<T> {
+        let n = u32::try_from(items.len()).unwrap_or(u32::MAX);
+        items.get(self.below(n) as usize).copied()
     }
 }

@@ -3,6 +3,7 @@ use crate::board::Board;
 use crate::random::Random;
 use crate::{line, value};
 use std::alloc::{AllocError, Global};
+use vectors::values::Values;
 
 #[derive(Drop)]
 pub enum Step {
@@ -18,11 +19,11 @@ pub enum Step {
     Line(Vec<u8>, usize, usize),
 }
 
-fn any_code(random: &mut Random, pulls: bool) -> u32 {
+fn any_code(random: &mut Random, values: Values) -> u32 {
     if random.once_in(12) {
         value::odd_code(random)
     } else {
-        value::code(random, pulls)
+        value::any(random, values)
     }
 }
 
@@ -39,10 +40,10 @@ fn room(random: &mut Random, board: &Board) -> usize {
     bytes as usize
 }
 
-fn call(random: &mut Random, board: &Board, pulls: bool) -> Step {
+fn call(random: &mut Random, board: &Board, values: Values) -> Step {
     match random.below(8) {
-        0 => Step::Wake(line::place(random, board.gates), any_code(random, pulls)),
-        1 | 2 | 3 => Step::Drive(line::place(random, board.ports), any_code(random, pulls)),
+        0 => Step::Wake(line::place(random, board.gates), any_code(random, values)),
+        1 | 2 | 3 => Step::Drive(line::place(random, board.ports), any_code(random, values)),
         4 | 5 => Step::Advance(line::ticks(random), room(random, board)),
         _ => Step::Read(line::place(random, board.nets)),
     }
@@ -62,8 +63,8 @@ fn lent(random: &mut Random) -> (usize, usize) {
 
 // The beginning of a case: a start level for every gate, then a value for every port. Left out, most
 // nets stay unset and little happens.
-pub fn first(random: &mut Random, board: &Board, pulls: bool, number: u32) -> Option<Step> {
-    let code = value::code(random, pulls);
+pub fn first(random: &mut Random, board: &Board, values: Values, number: u32) -> Option<Step> {
+    let code = value::any(random, values);
     match number.checked_sub(board.gates) {
         None => Some(Step::Wake(number, code)),
         Some(port) if port < board.ports => Some(Step::Drive(port, code)),
@@ -73,10 +74,9 @@ pub fn first(random: &mut Random, board: &Board, pulls: bool, number: u32) -> Op
 
 // Steps about the last tick that a run may reach, for a board that never rests: each advance that is
 // taken completes ten ticks, for its buffer has room for ten records.
-pub fn at_the_end(pulls: bool, number: u32) -> Option<Step> {
-    let zero = if pulls { 0o0066 } else { 2 };
+pub fn at_the_end(values: Values, number: u32) -> Option<Step> {
     match number {
-        0 => Some(Step::Wake(0, zero)),
+        0 => Some(Step::Wake(0, value::zero(values))),
         1 => Some(Step::Advance(16_777_217, 80)),
         2 => Some(Step::Advance(16_777_216, 80)),
         3 => Some(Step::Advance(16_777_207, 80)),
@@ -92,12 +92,12 @@ pub fn any(
     heap: Global,
     random: &mut Random,
     board: &Board,
-    pulls: bool,
+    values: Values,
 ) -> Result<Step, AllocError> {
     if random.once_in(2) {
-        return Ok(call(random, board, pulls));
+        return Ok(call(random, board, values));
     }
     let (out, trace) = lent(random);
-    let text = line::line(heap, random, board, pulls)?;
+    let text = line::line(heap, random, board, values)?;
     Ok(Step::Line(text, out, trace))
 }

@@ -1,6 +1,7 @@
 // Codes and names of values.
 use crate::random::Random;
-use std::alloc::AllocError;
+use std::alloc::{AllocError, Global};
+use vectors::values::Values;
 
 const LETTERS: &[u8] = b"UX01ZWLH-";
 
@@ -12,14 +13,22 @@ fn any_pull(random: &mut Random) -> u32 {
     up_low.min(7) * 512 + up_high * 64 + down_low.min(7) * 8 + down_high
 }
 
+// The code of a 0.
+pub fn zero(values: Values) -> u32 {
+    match values {
+        Values::Nine => 2,
+        Values::Pulls => 0o0066,
+    }
+}
+
 // The code of some value, more often of a 0 or a 1.
-pub fn code(random: &mut Random, pulls: bool) -> u32 {
-    match (pulls, random.below(4)) {
-        (false, 0 | 1) => random.between(2, 3),
-        (false, _) => random.below(9),
-        (true, 0) => 0o0066,
-        (true, 1) => 0o6600,
-        (true, _) => any_pull(random),
+pub fn any(random: &mut Random, values: Values) -> u32 {
+    match (values, random.below(4)) {
+        (Values::Nine, 0 | 1) => random.between(2, 3),
+        (Values::Nine, _) => random.below(9),
+        (Values::Pulls, 0) => 0o0066,
+        (Values::Pulls, 1) => 0o6600,
+        (Values::Pulls, _) => any_pull(random),
     }
 }
 
@@ -33,20 +42,13 @@ pub fn odd_code(random: &mut Random) -> u32 {
     }
 }
 
-fn digit(n: u32) -> u8 {
-    b'0' + (n % 8) as u8
-}
-
-// Writes the name of the value with this code behind `out`.
-pub fn push_name(out: &mut Vec<u8>, pulls: bool, code: u32) -> Result<(), AllocError> {
-    if pulls {
-        return out.extend_from_slice(&[
-            digit(code / 512),
-            digit(code / 64),
-            digit(code / 8),
-            digit(code),
-        ]);
+// The name of the value with this code.
+pub fn name(heap: Global, values: Values, code: u32) -> Result<String, AllocError> {
+    match values {
+        Values::Nine => {
+            let letter = LETTERS.get(code as usize).copied().unwrap_or(b'?');
+            char::from(letter).to_string(heap)
+        }
+        Values::Pulls => format!(in heap; "{code:04o}"),
     }
-    let letter = LETTERS.get(code as usize).copied().unwrap_or(b'?');
-    out.extend_from_slice(&[letter])
 }

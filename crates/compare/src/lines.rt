@@ -1,29 +1,14 @@
-// Compares what the two sides answer to a line of a script, and what the bench answers to a whole one.
+// Compares what the two sides answer to a line of a script.
 use crate::play::{FILL, holds};
 use crate::tally::Tally;
+use crate::told;
 use calendar::calendar::Calendar;
 use logic::named::Named;
-use netlist::place::Netlist;
-use oracle::board::Fault;
-use oracle::script as own_script;
 use oracle::simulator::Simulator;
+use oracle::{script as own_script, simulator};
 use run::state::Run;
-use script::fault::ScriptFault;
 use script::line::answer_line;
 use std::alloc::{AllocError, Global};
-
-fn same_fault(tally: &mut Tally, found: Option<ScriptFault>, own: Option<Fault>) -> bool {
-    match (found, own) {
-        (None, None) => true,
-        (Some(fault), Some(own)) => {
-            tally.refused(own.number);
-            u32::from(fault.number()) == own.number
-                && fault.letter() == own.layer
-                && u64::from(fault.place()) == own.place
-        }
-        _ => false,
-    }
-}
 
 // Answers one line on both sides; `out` and `room` are the lengths of the buffers.
 pub fn same_line<F: Named, C: Calendar>(
@@ -47,10 +32,15 @@ pub fn same_line<F: Named, C: Calendar>(
         trace.as_mut_slice(),
     );
     let own = own_script::answer_line(heap, sim, line, number, out, room)?;
-    let same = same_fault(tally, fault, own.fault);
+    let records = simulator::trace(heap, own.records.as_slice())?;
+    let told = told::same(
+        tally,
+        fault.map_or(Ok(()), Err),
+        own.fault.map_or(Ok(()), Err),
+    );
     Ok(
-        same && count == own.text.len()
-            && holds(output.as_slice(), own.text.as_slice())
-            && holds(trace.as_slice(), own.trace.as_slice()),
+        told && count == own.text.len()
+            && holds(output.as_slice(), own.text.as_bytes())
+            && holds(trace.as_slice(), records.as_slice()),
     )
 }

@@ -8,9 +8,12 @@ mod bench;
 mod case;
 mod files;
 mod lines;
+mod make;
 mod play;
 mod tally;
+mod told;
 
+use make::Make;
 use std::alloc::Global;
 use std::{env, io};
 use tally::Tally;
@@ -21,19 +24,17 @@ const CASES: u64 = 400;
 // The number of cases that the first argument asks for.
 fn wanted(rt: &HostRuntime) -> io::Result<u64> {
     let mut words = env::args(rt)?;
-    let _ = words.next();
-    match words.next() {
-        Some(word) => Ok(word.as_str().parse::<u64>().unwrap_or(CASES)),
-        None => Ok(CASES),
-    }
+    let word = words.nth(1);
+    let number = word.and_then(|word| word.as_str().parse::<u64>().ok());
+    Ok(number.unwrap_or(CASES))
 }
 
 // The verdict first, then what was seen: a number that never came is a hole.
 fn report(rt: &HostRuntime, tally: &Tally) -> io::Result<()> {
     let (cases, differing) = (tally.cases, tally.differing.len());
     println!(rt; "{differing} of {cases} cases differ")?;
-    for (seed, step) in tally.differing.iter() {
-        println!(rt; "seed {seed} differs at step {step}")?;
+    for (seed, what) in tally.differing.iter() {
+        println!(rt; "seed {seed} differs at {what}")?;
     }
     let (ticks, records, lines) = (tally.ticks, tally.records, tally.lines);
     println!(rt; "{ticks} ticks, {records} records, {lines} script lines")?;
@@ -49,10 +50,9 @@ fn report(rt: &HostRuntime, tally: &Tally) -> io::Result<()> {
 
 fn main(rt: HostRuntime) -> io::Result<()> {
     let heap: Global = rt.alloc();
-    for wheel in [false, true] {
-        let (good, all) = bench::agreeing(heap, wheel)?;
-        let calendar = if wheel { "wheel" } else { "heap" };
-        println!(rt; "{good} of {all} outside vectors agree on the {calendar}")?;
+    for make in [Make::Heap, Make::Wheel] {
+        let (good, all) = bench::agreeing(heap, make)?;
+        println!(rt; "{good} of {all} outside vectors agree on the {make}")?;
     }
     let mut tally = Tally::new(heap);
     for seed in 0..4 {

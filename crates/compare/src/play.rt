@@ -2,20 +2,28 @@
 ghost use Rattle.std.specs.Prelude.{◌≤◌};
 ghost use denote.Memory.{mem};
 
-use crate::case::Case;
-use crate::lines;
-use crate::tally::Tally;
+use crate::case::{Case, Steps};
+use crate::make::Make;
+use crate::tally::{Difference, Tally};
+use crate::{lines, told};
 use calendar::calendar::Calendar;
+use calendar::entry::Entry;
 use cases::random::Random;
 use cases::step;
 use cases::step::Step;
+use heap::heap::Heap;
 use logic::named::Named;
+use netlist::look_over::look_over;
 use netlist::place::Netlist;
-use oracle::board;
-use oracle::board::Decoded;
-use oracle::simulator::{Advanced, Seen, Simulator};
-use run::state::{Run, RunFault};
+use nine_values::nine::NineValues;
+use oracle::refusal::answered;
+use oracle::simulator::Simulator;
+use oracle::{board, simulator};
+use pull_ranges::pulls::PullRanges;
+use run::state::Run;
 use std::alloc::{AllocError, Global};
+use vectors::values::Values;
+use wheel::wheel::Wheel;
 
 // What the buffers hold before a call, to see that bytes behind an answer stay.
 pub const FILL: u8 = 0xa5;
@@ -25,44 +33,10 @@ fn narrow(n: u32) -> u16 {
     u16::try_from(n).unwrap_or(u16::MAX)
 }
 
-// A refusal's number and place.
-fn refusal(fault: RunFault) -> (u32, u32) {
-    (u32::from(fault.number()), fault.place())
-}
-
-// Whether a call that answers nothing was taken or refused as the simulator says.
-fn same_outcome(
-    tally: &mut Tally,
-    found: Result<(), RunFault>,
-    own: Option<u32>,
-    ticks: u32,
-) -> bool {
-    match (found, own) {
-        (Ok(()), None) => true,
-        (Err(fault), Some(number)) => {
-            tally.refused(number);
-            refusal(fault) == (number, ticks)
-        }
-        _ => false,
-    }
-}
-
-fn all_filled(bytes: &[u8]) -> bool {
-    for b in bytes {
-        if *b != FILL {
-            return false;
-        }
-    }
-    true
-}
-
 // Whether the buffer begins with `text` and is untouched behind it.
 pub fn holds(buffer: &[u8], text: &[u8]) -> bool {
-    let n = text.len();
-    if n > buffer.len() {
-        return false;
-    }
-    &buffer[0..n] == text && all_filled(&buffer[n..])
+    let behind = buffer.strip_prefix(text);
+    behind.is_some_and(|rest| rest.iter().all(|b| *b == FILL))
 }
 
 fn same_advance<F: Named, C: Calendar>(
@@ -74,40 +48,14 @@ fn same_advance<F: Named, C: Calendar>(
     room: usize,
 ) -> Result<bool, AllocError> {
     let mut buffer = vec![in heap; FILL; room]?;
-    let mut trace = Vec::new(heap);
-    let before = sim.ticks();
     let found = run.advance(count, buffer.as_mut_slice());
-    let own = sim.advance(count, room, &mut trace)?;
-    let untouched = holds(buffer.as_slice(), trace.as_slice());
-    let same = match (found, own) {
-        (Ok((ticks, bytes)), Advanced::Moved(own_ticks, own_bytes)) => {
-            ticks == own_ticks && bytes == own_bytes && own_bytes == trace.len()
-        }
-        (Err(fault), Advanced::Refused(number)) => {
-            tally.refused(number);
-            refusal(fault) == (number, before)
-        }
-        _ => false,
+    let own = answered(sim.advance(count, room))?;
+    let trace = match &own {
+        Ok((_, records)) => simulator::trace(heap, records.as_slice())?,
+        Err(_) => Vec::new(heap),
     };
-    Ok(same && untouched)
-}
-
-fn same_read<F: Named, C: Calendar>(
-    tally: &mut Tally,
-    run: &Run<F, C>,
-    sim: &Simulator,
-    net: u32,
-) -> bool {
-    match (run.read(narrow(net)), sim.read(net)) {
-        (Ok((code, definite)), Seen::Level(own, own_definite)) => {
-            u32::from(code) == own && definite == own_definite
-        }
-        (Err(fault), Seen::Refused(number)) => {
-            tally.refused(number);
-            refusal(fault) == (number, sim.ticks())
-        }
-        _ => false,
-    }
+    let own = own.map(|(ticks, _)| (ticks, trace.len()));
+    Ok(told::same(tally, found, own) && holds(buffer.as_slice(), trace.as_slice()))
 }
 
 // Takes one step on both sides, and answers whether they agree.
@@ -121,16 +69,18 @@ fn same_step<F: Named, C: Calendar>(
     match step {
         Step::Wake(gate, code) => {
             let found = run.wake(narrow(gate), narrow(code));
-            let own = sim.wake(gate, code);
-            Ok(same_outcome(tally, found, own, sim.ticks()))
+            Ok(told::same(tally, found, sim.wake(gate, code)))
         }
         Step::Drive(port, code) => {
             let found = run.drive(narrow(port), narrow(code));
-            let own = sim.drive(port, code);
-            Ok(same_outcome(tally, found, own, sim.ticks()))
+            Ok(told::same(tally, found, sim.drive(port, code)))
         }
         Step::Advance(count, room) => same_advance(heap, tally, run, sim, count, room),
-        Step::Read(net) => Ok(same_read(tally, run, sim, net)),
+        Step::Read(net) => {
+            let found = run.read(narrow(net));
+            let found = found.map(|(code, definite)| (u32::from(code), definite));
+            Ok(told::same(tally, found, sim.read(net)))
+        }
         Step::Line(line, out, room) => lines::same_line(
             heap,
             tally,
@@ -150,15 +100,15 @@ fn next_step(
     case: &Case,
     number: u32,
 ) -> Result<Step, AllocError> {
-    if case.at_the_end {
-        return Ok(step::at_the_end(case.pulls, number).unwrap_or(Step::Read(0)));
+    if case.steps == Steps::AtTheEnd {
+        return Ok(step::at_the_end(case.values(), number).unwrap_or(Step::Read(0)));
     }
     if case.seed / 4 % 4 != 0 {
-        if let Some(step) = step::first(random, &case.board, case.pulls, number) {
+        if let Some(step) = step::first(random, &case.board, case.values(), number) {
             return Ok(step);
         }
     }
-    step::any(heap, random, &case.board, case.pulls)
+    step::any(heap, random, &case.board, case.values())
 }
 
 // Takes the steps of a case; a difference ends it early.
@@ -170,16 +120,12 @@ fn all_steps<F: Named, C: Calendar>(
     run: &mut Run<F, C>,
     sim: &mut Simulator,
 ) -> Result<(), AllocError> {
-    let steps = case
-        .board
-        .gates
-        .saturating_add(case.board.ports)
-        .saturating_add(50);
-    for number in 0..steps {
+    let (gates, ports) = (case.board.gates, case.board.ports);
+    for number in 0..gates.saturating_add(ports).saturating_add(50) {
         let step = next_step(heap, random, case, number)?;
         let same = same_step(heap, tally, run, sim, step)?;
         if !same || run.calendar().next() != sim.next_change() {
-            return tally.differs(case.seed, number);
+            return tally.differs(case.seed, Difference::Step(number));
         }
     }
     Ok(())
@@ -196,29 +142,78 @@ fn same_end(
     tally.ticks = tally.ticks.saturating_add(u64::from(ticks));
     tally.records = tally.records.saturating_add(records);
     if ticks != sim.ticks() || records != sim.records() {
-        return tally.differs(case.seed, u32::MAX);
+        tally.differs(case.seed, Difference::End)?;
     }
     Ok(())
 }
 
 // Plays a case to its end. The run is held by value, so its parts must be of a size that memory has.
-pub fn play<F: Named + Drop, C: Calendar + Drop>(
+fn play<F: Named + Drop, C: Calendar + Drop>(
     heap: Global,
     tally: &mut Tally,
     random: &mut Random,
     case: &Case,
+    sim: &mut Simulator,
     netlist: Netlist,
     calendar: C,
 ) -> Result<(), AllocError>
     requires calendar { (mem C.row).size ≤ 1048576 }
     requires value { (mem F.Value.row).size ≤ 64 }
 {
-    let Decoded::Good(own) = board::decode(heap, case.board.bytes.as_slice())? else {
-        return tally.differs(case.seed, 0);
-    };
-    let mut sim = Simulator::new(heap, case.family(), own, case.fit)?;
     let mut run: Run<F, C> = Run::open(netlist, calendar);
-    all_steps(heap, tally, random, case, &mut run, &mut sim)?;
+    all_steps(heap, tally, random, case, &mut run, sim)?;
     let (ticks, records) = run.finish();
-    same_end(tally, case, &sim, ticks, records)
+    same_end(tally, case, sim, ticks, records)
+}
+
+fn play_on<C: Calendar + Drop>(
+    heap: Global,
+    tally: &mut Tally,
+    random: &mut Random,
+    case: &Case,
+    sim: &mut Simulator,
+    netlist: Netlist,
+    calendar: C,
+) -> Result<(), AllocError>
+    requires { (mem C.row).size ≤ 1048576 }
+{
+    match case.values() {
+        Values::Nine => play::<NineValues, C>(heap, tally, random, case, sim, netlist, calendar),
+        Values::Pulls => play::<PullRanges, C>(heap, tally, random, case, sim, netlist, calendar),
+    }
+}
+
+// Plays a case on the calendar that its seed chooses.
+pub fn play_case(
+    heap: Global,
+    tally: &mut Tally,
+    random: &mut Random,
+    case: &Case,
+) -> Result<(), AllocError> {
+    let bytes = case.board.bytes.as_slice();
+    let mut netlist = Netlist::new();
+    let found = look_over(bytes, &mut netlist);
+    let (Ok(()), Ok(own)) = (found, answered(board::decode(heap, bytes))?) else {
+        return tally.differs(case.seed, Difference::File);
+    };
+    tally.cases = tally.cases.saturating_add(1);
+    let places = case.places(random);
+    let mut sim = Simulator::new(heap, case.family(), own, places >= case.enough())?;
+    match case.make() {
+        Make::Heap => {
+            let blank = Entry {
+                tick: 0,
+                gate: 0,
+                code: 0,
+            };
+            let mut entries = vec![in heap; blank; places as usize]?;
+            let calendar = Heap::new(entries.as_mut_slice());
+            play_on(heap, tally, random, case, &mut sim, netlist, calendar)
+        }
+        Make::Wheel => {
+            let mut slots = vec![in heap; 0u16; places as usize]?;
+            let calendar = Wheel::new(slots.as_mut_slice());
+            play_on(heap, tally, random, case, &mut sim, netlist, calendar)
+        }
+    }
 }

@@ -1,5 +1,25 @@
 // What was seen.
+use oracle::refusal::Refusal;
 use std::alloc::{AllocError, Global};
+use std::fmt;
+
+// Where a case differs.
+#[derive(Clone, Copy, Debug, PartialEq, Eq)]
+pub enum Difference {
+    File,
+    Step(u32),
+    End,
+}
+
+impl fmt::Display for Difference {
+    fn fmt<W: fmt::Write>(&self, f: &mut fmt::Formatter<W>) -> fmt::Result {
+        match self {
+            Difference::File => write!(f, "its file"),
+            Difference::Step(number) => write!(f, "step {number}"),
+            Difference::End => write!(f, "its end"),
+        }
+    }
+}
 
 #[derive(Drop)]
 pub struct Tally {
@@ -9,8 +29,8 @@ pub struct Tally {
     pub lines: u64,
     // how often each number came, from 1 on
     pub refusals: [u64; 26],
-    // the cases that differ, by their seed, each with its first step that does
-    pub differing: Vec<(u64, u32)>,
+    // the cases that differ, by their seed, each with the first that does
+    pub differing: Vec<(u64, Difference)>,
 }
 
 impl Tally {
@@ -25,20 +45,17 @@ impl Tally {
         }
     }
 
-    pub fn refused(&mut self, number: u32) {
-        if let Some(count) = self.refusals.get_mut(number as usize) {
+    pub fn refused(&mut self, refusal: Refusal) {
+        if let Some(count) = self.refusals.get_mut(refusal.number() as usize) {
             *count = count.saturating_add(1);
         }
     }
 
     // Notes a case that differs, once.
-    pub fn differs(&mut self, seed: u64, step: u32) -> Result<(), AllocError> {
-        if let Some((last, _)) = self.differing.last() {
-            if *last == seed {
-                return Ok(());
-            }
+    pub fn differs(&mut self, seed: u64, what: Difference) -> Result<(), AllocError> {
+        if self.differing.last().is_none_or(|(last, _)| *last != seed) {
+            self.differing.push((seed, what))?;
         }
-        self.differing.push((seed, step))?;
         Ok(())
     }
 }

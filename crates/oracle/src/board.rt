@@ -1,9 +1,11 @@
 // Reads a netlist file from its bytes, or says what is wrong with it.
+use crate::kind::Kind;
+use crate::refusal::{Failure, Fault, Refusal};
 use std::alloc::{AllocError, Global};
 
-#[derive(Clone, Copy)]
+#[derive(Clone, Copy, Debug, PartialEq, Eq)]
 pub struct Gate {
-    pub kind: u8,
+    pub kind: Kind,
     pub a: u32,
     pub b: u32,
     pub out: u32,
@@ -18,175 +20,109 @@ pub struct Board {
     pub watches: Vec<u32>,
 }
 
-// Why something was refused: a number, the letter of a layer, and a place.
+// A file whose head and length are right, its gates and its watch list still as bytes.
 #[derive(Clone, Copy)]
-pub struct Fault {
-    pub number: u32,
-    pub layer: u8,
-    pub place: u64,
+struct File<'a> {
+    nets: u32,
+    ports: u32,
+    gates: &'a [u8],
+    watches: &'a [u8],
 }
 
-#[derive(Drop)]
-pub enum Decoded {
-    Good(Board),
-    Bad(Fault),
-}
-
-fn byte(bytes: &[u8], at: usize) -> u8 {
-    bytes.get(at).copied().unwrap_or(0)
-}
-
-// Two bytes, the high one first.
+// Two bytes, the high one first; 0 where there are none.
 fn word(bytes: &[u8], at: usize) -> u32 {
-    u32::from(byte(bytes, at)) * 256 + u32::from(byte(bytes, at.saturating_add(1)))
-}
-
-fn wrong(number: u32, place: usize) -> Option<Fault> {
-    Some(Fault {
-        number,
-        layer: b'n',
-        place: place as u64,
-    })
-}
-
-// The first thing wrong with the head of the file or with its length.
-fn head_fault(bytes: &[u8]) -> Option<Fault> {
-    let (nets, ports) = (word(bytes, 5), word(bytes, 7));
-    let (gates, watches) = (word(bytes, 9), word(bytes, 11));
-    let length = bytes.len();
-    if length < 13 {
-        wrong(1, length)
-    } else if byte(bytes, 0) != b'N' || byte(bytes, 1) != b'L' || byte(bytes, 2) != b'B' {
-        wrong(2, 0)
-    } else if word(bytes, 3) != 1 {
-        wrong(3, 3)
-    } else if nets == 0 || nets > 1024 {
-        wrong(4, 5)
-    } else if ports > nets {
-        wrong(4, 7)
-    } else if gates > 1024 {
-        wrong(4, 9)
-    } else if watches == 0 || watches > nets {
-        wrong(4, 11)
-    } else if length as u64 != 13 + 9 * u64::from(gates) + 2 * u64::from(watches) {
-        wrong(5, length)
-    } else {
-        None
+    match bytes.get(at..) {
+        Some([high, low, ..]) => u32::from(u16::from_be_bytes([*high, *low])),
+        _ => 0,
     }
 }
 
-fn gate_at(bytes: &[u8], at: usize) -> Gate {
-    Gate {
-        kind: byte(bytes, at),
-        a: word(bytes, at.saturating_add(1)),
-        b: word(bytes, at.saturating_add(3)),
-        out: word(bytes, at.saturating_add(5)),
-        delay: word(bytes, at.saturating_add(7)),
+impl Gate {
+    fn read(record: &[u8], nets: u32) -> Result<Gate, Refusal> {
+        let kind = Kind::try_from(record.first().copied().unwrap_or(0))?;
+        let (a, b) = (word(record, 1), word(record, 3));
+        let (out, delay) = (word(record, 5), word(record, 7));
+        let unused_is_set = (!kind.reads_a() && a != 0) || (!kind.reads_b() && b != 0);
+        if a >= nets || b >= nets || out >= nets || unused_is_set {
+            return Err(Refusal::Net);
+        }
+        if delay == 0 || delay > 64 {
+            return Err(Refusal::Delay);
+        }
+        Ok(Gate {
+            kind,
+            a,
+            b,
+            out,
+            delay,
+        })
     }
 }
 
-// Pulls use no input, and a buffer and a NOT only the first.
-fn unused_is_set(gate: Gate) -> bool {
-    match gate.kind {
-        1 | 2 => gate.b != 0,
-        10 | 11 => gate.a != 0 || gate.b != 0,
-        _ => false,
-    }
-}
-
-fn gate_fault(gate: Gate, nets: u32, place: usize) -> Option<Fault> {
-    if gate.kind == 0 || gate.kind > 11 {
-        wrong(6, place)
-    } else if gate.a >= nets || gate.b >= nets || gate.out >= nets || unused_is_set(gate) {
-        wrong(7, place)
-    } else if gate.delay == 0 || gate.delay > 64 {
-        wrong(8, place)
-    } else {
-        None
-    }
-}
-
-// The gates that the file has, each a record of nine bytes.
-fn gates_of(heap: Global, bytes: &[u8]) -> Result<Vec<Gate>, AllocError> {
-    let mut gates = Vec::new(heap);
-    for g in 0..word(bytes, 9) {
-        gates.push(gate_at(bytes, 13 + 9 * g as usize))?;
-    }
-    Ok(gates)
-}
-
-fn first_bad_gate(gates: &Vec<Gate>, nets: u32) -> Option<Fault> {
-    for (g, gate) in gates.iter().enumerate() {
-        let fault = gate_fault(*gate, nets, g.saturating_mul(9).saturating_add(13));
-        if fault.is_some() {
-            return fault;
+impl<'a> File<'a> {
+    fn read(bytes: &'a [u8]) -> Result<File<'a>, Fault> {
+        let length = bytes.len() as u64;
+        let Some((head, rest)) = bytes.split_at_checked(13) else {
+            return Err(Refusal::Short.at(length));
+        };
+        Refusal::Mark.unless(head.starts_with(b"NLB"), 0)?;
+        Refusal::Version.unless(word(head, 3) == 1, 3)?;
+        let (nets, ports) = (word(head, 5), word(head, 7));
+        let (count, watched) = (word(head, 9), word(head, 11));
+        Refusal::Count.unless((1..=1024).contains(&nets), 5)?;
+        Refusal::Count.unless(ports <= nets, 7)?;
+        Refusal::Count.unless(count <= 1024, 9)?;
+        Refusal::Count.unless((1..=nets).contains(&watched), 11)?;
+        match rest.split_at_checked(9 * count as usize) {
+            Some((gates, watches)) if watches.len() == 2 * watched as usize => Ok(File {
+                nets,
+                ports,
+                gates,
+                watches,
+            }),
+            _ => Err(Refusal::Length.at(length)),
         }
     }
-    None
-}
 
-// The watch list stands behind the gates.
-fn watches_of(heap: Global, bytes: &[u8]) -> Result<Vec<u32>, AllocError> {
-    let from = 13 + 9 * word(bytes, 9) as usize;
-    let mut watches = Vec::new(heap);
-    for i in 0..word(bytes, 11) {
-        watches.push(word(bytes, from + 2 * i as usize))?;
-    }
-    Ok(watches)
-}
-
-// The first watched net that is not a net or not above the one before; `from` is the list's offset.
-fn first_bad_watch(watches: &Vec<u32>, nets: u32, from: usize) -> Option<Fault> {
-    let mut least = 0;
-    for (i, net) in watches.iter().enumerate() {
-        if *net >= nets || *net < least {
-            return wrong(9, i.saturating_mul(2).saturating_add(from));
+    // The gates, each a record of nine bytes.
+    fn gates(&self, heap: Global) -> Result<Vec<Gate>, Failure> {
+        let mut gates = Vec::new(heap);
+        for (g, record) in self.gates.chunks_exact(9).enumerate() {
+            let place = (g as u64).saturating_mul(9).saturating_add(13);
+            gates.push(Gate::read(record, self.nets).map_err(|refusal| refusal.at(place))?)?;
         }
-        least = net.saturating_add(1);
+        Ok(gates)
     }
-    None
-}
 
-fn drives(gates: &Vec<Gate>, net: u32) -> bool {
-    for gate in gates.iter() {
-        if gate.out == net {
-            return true;
+    // The watch list stands behind the gates: nets, each above the one before.
+    fn watches(&self, heap: Global) -> Result<Vec<u32>, Failure> {
+        let from = (self.gates.len() as u64).saturating_add(13);
+        let mut watches = Vec::new(heap);
+        for (i, pair) in self.watches.chunks_exact(2).enumerate() {
+            let net = word(pair, 0);
+            let rises = watches.last().is_none_or(|before| *before < net);
+            let place = (i as u64).saturating_mul(2).saturating_add(from);
+            Refusal::Watch.unless(net < self.nets && rises, place)?;
+            watches.push(net)?;
         }
+        Ok(watches)
     }
-    false
-}
-
-// The lowest net that nothing drives.
-fn first_loose_net(gates: &Vec<Gate>, ports: u32, nets: u32) -> Option<Fault> {
-    for net in ports..nets {
-        if !drives(gates, net) {
-            return wrong(10, net as usize);
-        }
-    }
-    None
 }
 
 // The board that a file describes, or the first thing wrong with the file.
-pub fn decode(heap: Global, bytes: &[u8]) -> Result<Decoded, AllocError> {
-    if let Some(fault) = head_fault(bytes) {
-        return Ok(Decoded::Bad(fault));
+pub fn decode(heap: Global, bytes: &[u8]) -> Result<Board, Failure> {
+    let file = File::read(bytes)?;
+    let gates = file.gates(heap)?;
+    let watches = file.watches(heap)?;
+    let (nets, ports) = (file.nets, file.ports);
+    let undriven = (ports..nets).find(|net| !gates.iter().any(|gate| gate.out == *net));
+    if let Some(net) = undriven {
+        return Err(Refusal::Undriven.at(u64::from(net)).into());
     }
-    let (nets, ports) = (word(bytes, 5), word(bytes, 7));
-    let gates = gates_of(heap, bytes)?;
-    if let Some(fault) = first_bad_gate(&gates, nets) {
-        return Ok(Decoded::Bad(fault));
-    }
-    let watches = watches_of(heap, bytes)?;
-    if let Some(fault) = first_bad_watch(&watches, nets, 13 + 9 * word(bytes, 9) as usize) {
-        return Ok(Decoded::Bad(fault));
-    }
-    if let Some(fault) = first_loose_net(&gates, ports, nets) {
-        return Ok(Decoded::Bad(fault));
-    }
-    Ok(Decoded::Good(Board {
+    Ok(Board {
         nets,
         ports,
         gates,
         watches,
-    }))
+    })
 }

@@ -7,7 +7,9 @@
 
 pub mod board;
 pub mod family;
+pub mod kind;
 pub mod nine;
 pub mod pull;
+pub mod refusal;
 pub mod script;
 pub mod simulator;

@@ -1,4 +1,5 @@
 // The nine values of IEEE 1164 as the standard prints them: tables of letters.
+use crate::kind::Kind;
 
 // The values in the order of their codes.
 pub const LETTERS: &[u8] = b"UX01ZWLH-";
@@ -64,53 +65,43 @@ pub const RESOLVE: &[u8] = b"\
     UX01HWWHX\
     UXXXXXXXX";
 
+// Kept as it is: a value is its code, as in the other family, so that one simulator serves both; an enum would be made and unmade at each use.
+
 // The code of a letter.
 pub fn code_of(letter: u8) -> Option<u32> {
-    match letter {
-        b'U' => Some(0),
-        b'X' => Some(1),
-        b'0' => Some(2),
-        b'1' => Some(3),
-        b'Z' => Some(4),
-        b'W' => Some(5),
-        b'L' => Some(6),
-        b'H' => Some(7),
-        b'-' => Some(8),
-        _ => None,
-    }
+    let place = LETTERS.iter().position(|l| *l == letter)?;
+    u32::try_from(place).ok()
 }
 
 // The letter of a code; `?` for a code without a value.
-pub fn letter_of(code: u32) -> u8 {
-    LETTERS.get(code as usize).copied().unwrap_or(b'?')
+pub fn letter_of(code: u32) -> char {
+    LETTERS.get(code as usize).map_or('?', |l| char::from(*l))
 }
 
 // What stands in the table's row `a` and column `b`.
 pub fn entry(table: &[u8], a: u32, b: u32) -> u32 {
-    let at = a as usize * 9 + b as usize;
-    let letter = table.get(at).copied().unwrap_or(b'U');
-    code_of(letter).unwrap_or(0)
+    let letter = table.get(a as usize * 9 + b as usize);
+    letter.and_then(|l| code_of(*l)).unwrap_or(0)
 }
 
 // The operation of a gate of this kind.
-pub fn operate(kind: u8, a: u32, b: u32) -> u32 {
+pub fn operate(kind: Kind, a: u32, b: u32) -> u32 {
     match kind {
-        1 => entry(AND, a, a),
-        2 => entry(NOT, 0, a),
-        3 => entry(AND, a, b),
-        4 => entry(OR, a, b),
-        5 => entry(XOR, a, b),
-        6 => entry(NOT, 0, entry(AND, a, b)),
-        7 => entry(NOT, 0, entry(OR, a, b)),
-        8 => entry(NOT, 0, entry(XOR, a, b)),
-        9 => entry(TRI, a, b),
-        10 => 7,
-        11 => 6,
-        _ => 0,
+        Kind::Buffer => entry(AND, a, a),
+        Kind::Not => entry(NOT, 0, a),
+        Kind::And => entry(AND, a, b),
+        Kind::Or => entry(OR, a, b),
+        Kind::Xor => entry(XOR, a, b),
+        Kind::Nand => entry(NOT, 0, entry(AND, a, b)),
+        Kind::Nor => entry(NOT, 0, entry(OR, a, b)),
+        Kind::Xnor => entry(NOT, 0, entry(XOR, a, b)),
+        Kind::Tri => entry(TRI, a, b),
+        Kind::PullUp => 7,
+        Kind::PullDown => 6,
     }
 }
 
 // Nothing else refines 0, 1, Z, L, H or -; U, X and W each leave a choice.
 pub fn is_definite(code: u32) -> bool {
-    !matches!(letter_of(code), b'U' | b'X' | b'W')
+    !matches!(letter_of(code), 'U' | 'X' | 'W')
 }

@@ -1,61 +1,52 @@
 // The simulator: every net at every tick, from the port values and the start levels.
 use crate::board::{Board, Gate};
-use crate::family;
 use crate::family::Family;
+use crate::refusal::{Failure, Fault, Refusal};
 use std::alloc::{AllocError, Global};
 
 // No run has more ticks than this.
 const LAST: u32 = 16_777_216;
 
+// A gate and its start level.
+#[derive(Clone, Copy)]
+struct Driver {
+    gate: Gate,
+    start: u32,
+}
+
+// A change of a watched net, as an advance reports it.
+#[derive(Clone, Copy, Debug, PartialEq, Eq)]
+pub struct Record {
+    pub tick: u32,
+    pub net: u32,
+    pub code: u32,
+}
+
 #[derive(Drop)]
 pub struct Simulator {
     heap: Global,
     family: Family,
-    board: Board,
     // whether the bench would have had a fit calendar
     fit: bool,
-    // the start level of each gate
-    starts: Vec<u32>,
+    nets: u32,
+    watches: Vec<u32>,
+    drivers: Vec<Driver>,
     // what each port was last driven with
-    driven: Vec<u32>,
+    ports: Vec<u32>,
     // the level of each net, for each tick that is complete
     levels: Vec<Vec<u32>>,
     records: u64,
 }
 
-// What an advance answers: ticks and bytes, or the number of a refusal.
-#[derive(Clone, Copy)]
-pub enum Advanced {
-    Moved(u32, usize),
-    Refused(u32),
-}
-
-// What a read answers: a level and whether it is definite, or the number of a refusal.
-#[derive(Clone, Copy)]
-pub enum Seen {
-    Level(u32, bool),
-    Refused(u32),
-}
-
-fn all_unset(heap: Global, family: Family, count: usize) -> Result<Vec<u32>, AllocError> {
-    let mut values = Vec::new(heap);
-    for _ in 0..count {
-        values.push(family::unset(family))?;
+// The bytes of a trace: of each record a 32-bit tick, a 16-bit net and a 16-bit code, the high byte first.
+pub fn trace(heap: Global, records: &[Record]) -> Result<Vec<u8>, AllocError> {
+    let mut bytes = Vec::new(heap);
+    for record in records {
+        bytes.extend_from_slice(&record.tick.to_be_bytes())?;
+        bytes.extend_from_slice(&record.net.to_be_bytes()[2..])?;
+        bytes.extend_from_slice(&record.code.to_be_bytes()[2..])?;
     }
-    Ok(values)
-}
-
-fn put(values: &mut Vec<u32>, at: u32, code: u32) {
-    if let Some(place) = values.get_mut(at as usize) {
-        *place = code;
-    }
-}
-
-// A 32-bit tick, a 16-bit net and a 16-bit code, the high byte first.
-fn push_record(trace: &mut Vec<u8>, tick: u32, net: u32, code: u32) -> Result<(), AllocError> {
-    trace.extend_from_slice(&tick.to_be_bytes())?;
-    trace.extend_from_slice(&[(net / 256 % 256) as u8, (net % 256) as u8])?;
-    trace.extend_from_slice(&[(code / 256 % 256) as u8, (code % 256) as u8])
+    Ok(bytes)
 }
 
 impl Simulator {
@@ -65,17 +56,21 @@ impl Simulator {
         board: Board,
         fit: bool,
     ) -> Result<Simulator, AllocError> {
-        let starts = all_unset(heap, family, board.gates.len())?;
-        let driven = all_unset(heap, family, board.ports as usize)?;
-        let levels = Vec::new(heap);
+        let start = family.unset();
+        let drivers = board
+            .gates
+            .iter()
+            .map(|gate| Driver { gate: *gate, start })
+            .collect(heap)?;
         Ok(Simulator {
             heap,
             family,
-            board,
             fit,
-            starts,
-            driven,
-            levels,
+            nets: board.nets,
+            watches: board.watches,
+            drivers,
+            ports: vec![in heap; start; board.ports as usize]?,
+            levels: Vec::new(heap),
             records: 0,
         })
     }
@@ -94,207 +89,150 @@ impl Simulator {
         self.family
     }
 
-    // The level of a net at a tick that is complete.
+    // The level of a net at a tick; unset where the tick is not complete.
     fn level(&self, net: u32, tick: usize) -> u32 {
-        match self.levels.get(tick) {
-            Some(row) => row.get(net as usize).copied().unwrap_or(0),
-            None => family::unset(self.family),
-        }
+        let row = self.levels.get(tick);
+        row.and_then(|row| row.get(net as usize).copied())
+            .unwrap_or(self.family.unset())
     }
 
     // What a gate drives at a tick: its start level until its delay has passed, then its
     // operation on what its inputs were, the delay ago.
-    fn output(&self, gate: Gate, start: u32, tick: usize) -> u32 {
+    fn output(&self, driver: &Driver, tick: usize) -> u32 {
+        let gate = driver.gate;
         match tick.checked_sub(gate.delay as usize) {
-            None => start,
+            None => driver.start,
             Some(then) => {
-                let a = self.level(gate.a, then);
-                let b = self.level(gate.b, then);
-                family::operate(self.family, gate.kind, a, b)
+                let (a, b) = (self.level(gate.a, then), self.level(gate.b, then));
+                self.family.operate(gate.kind, a, b)
             }
         }
     }
 
-    fn joined(&self, so_far: Option<u32>, next: u32) -> Option<u32> {
-        match so_far {
-            None => Some(next),
-            Some(level) => Some(family::resolve(self.family, level, next)),
-        }
-    }
-
-    // What a net is at the tick behind the last complete one: its drivers joined from the left,
-    // the port first where it is one, then the gates in the order of the file.
-    fn settled(&self, net: u32) -> u32 {
-        let tick = self.levels.len();
-        let mut level = None;
-        if net < self.board.ports {
-            level = self.driven.get(net as usize).copied();
-        }
-        for (gate, start) in self.board.gates.iter().zip(self.starts.iter()) {
-            if gate.out == net {
-                level = self.joined(level, self.output(*gate, *start, tick));
-            }
-        }
-        level.unwrap_or(0)
+    // What a net is at a tick whose inputs are known: its drivers joined from the left, the port
+    // first where it is one, then the gates in the order of the file.
+    fn settled(&self, net: u32, tick: usize) -> u32 {
+        let port = self.ports.get(net as usize).copied();
+        let gates = self
+            .drivers
+            .iter()
+            .filter(|driver| driver.gate.out == net)
+            .map(|driver| self.output(driver, tick));
+        port.into_iter()
+            .chain(gates)
+            .reduce(|level, next| self.family.resolve(level, next))
+            .unwrap_or(self.family.unset())
     }
 
     // Completes one tick.
     fn step(&mut self) -> Result<(), AllocError> {
-        let mut row = Vec::new(self.heap);
-        for net in 0..self.board.nets {
-            row.push(self.settled(net))?;
-        }
+        let tick = self.levels.len();
+        let row = (0..self.nets)
+            .map(|net| self.settled(net, tick))
+            .collect(self.heap)?;
         self.levels.push(row)?;
         Ok(())
     }
 
-    // Writes a record for each watched net that the tick changed, and answers their number.
-    // Before the first tick every net is unset.
-    fn report(&self, tick: u32, trace: &mut Vec<u8>) -> Result<u32, AllocError> {
-        let mut count: u32 = 0;
-        for net in self.board.watches.iter() {
+    // Reports each watched net that a tick changed. Before the first tick every net is unset.
+    fn report(&self, tick: u32, records: &mut Vec<Record>) -> Result<(), AllocError> {
+        for net in self.watches.iter() {
+            let code = self.level(*net, tick as usize);
             let before = match tick.checked_sub(1) {
                 Some(earlier) => self.level(*net, earlier as usize),
-                None => family::unset(self.family),
+                None => self.family.unset(),
             };
-            let level = self.level(*net, tick as usize);
-            if level != before {
-                push_record(trace, tick, *net, level)?;
-                count = count.saturating_add(1);
+            if code != before {
+                records.push(Record {
+                    tick,
+                    net: *net,
+                    code,
+                })?;
             }
         }
-        Ok(count)
+        Ok(())
     }
 
-    fn wake_refusal(&self, gate: u32, code: u32) -> Option<u32> {
-        if !self.fit {
-            Some(16)
-        } else if gate as usize >= self.board.gates.len() {
-            Some(17)
-        } else if !family::has_value(self.family, code) {
-            Some(18)
-        } else if self.ticks() > 0 {
-            Some(23)
-        } else {
-            None
-        }
+    // Sets a gate's start level.
+    pub fn wake(&mut self, gate: u32, code: u32) -> Result<(), Fault> {
+        let ticks = u64::from(self.ticks());
+        Refusal::UnfitCalendar.unless(self.fit, ticks)?;
+        let Some(driver) = self.drivers.get_mut(gate as usize) else {
+            return Err(Refusal::NoSuchInput.at(ticks));
+        };
+        Refusal::NoValue.unless(self.family.has_value(code), ticks)?;
+        Refusal::Untimely.unless(ticks == 0, ticks)?;
+        driver.start = code;
+        Ok(())
     }
 
-    // Sets a gate's start level, or answers the number of a refusal.
-    pub fn wake(&mut self, gate: u32, code: u32) -> Option<u32> {
-        let refusal = self.wake_refusal(gate, code);
-        if refusal.is_none() {
-            put(&mut self.starts, gate, code);
-        }
-        refusal
+    // Sets a port's value for the ticks to come.
+    pub fn drive(&mut self, port: u32, code: u32) -> Result<(), Fault> {
+        let ticks = u64::from(self.ticks());
+        Refusal::UnfitCalendar.unless(self.fit, ticks)?;
+        let Some(driven) = self.ports.get_mut(port as usize) else {
+            return Err(Refusal::NoSuchInput.at(ticks));
+        };
+        Refusal::NoValue.unless(self.family.has_value(code), ticks)?;
+        *driven = code;
+        Ok(())
     }
 
-    fn drive_refusal(&self, port: u32, code: u32) -> Option<u32> {
-        if !self.fit {
-            Some(16)
-        } else if port >= self.board.ports {
-            Some(17)
-        } else if !family::has_value(self.family, code) {
-            Some(18)
-        } else {
-            None
-        }
+    // Whether records leave room in a trace buffer of so many bytes for one of each watched net.
+    fn has_room(&self, room: usize, records: &[Record]) -> bool {
+        let most = records.len().saturating_add(self.watches.len());
+        most.saturating_mul(8) <= room
     }
 
-    // Sets a port's value for the ticks to come, or answers the number of a refusal.
-    pub fn drive(&mut self, port: u32, code: u32) -> Option<u32> {
-        let refusal = self.drive_refusal(port, code);
-        if refusal.is_none() {
-            put(&mut self.driven, port, code);
-        }
-        refusal
-    }
-
-    // The bytes that a tick may need.
-    fn widest(&self) -> usize {
-        self.board.watches.len().saturating_mul(8)
-    }
-
-    fn advance_refusal(&self, count: u32, room: usize) -> Option<u32> {
-        if !self.fit {
-            Some(16)
-        } else if count == 0 {
-            Some(19)
-        } else if u64::from(self.ticks()) + u64::from(count) > u64::from(LAST) {
-            Some(20)
-        } else if room < self.widest() {
-            Some(21)
-        } else {
-            None
-        }
-    }
-
-    // Completes `count` ticks, fewer where the room for records runs short, and writes their
-    // records behind `trace`.
-    pub fn advance(
-        &mut self,
-        count: u32,
-        room: usize,
-        trace: &mut Vec<u8>,
-    ) -> Result<Advanced, AllocError> {
-        if let Some(number) = self.advance_refusal(count, room) {
-            return Ok(Advanced::Refused(number));
-        }
-        let mut left = room;
-        let mut done: u32 = 0;
+    // Completes `count` ticks, fewer where the room for records runs short, and answers how many
+    // and their records.
+    pub fn advance(&mut self, count: u32, room: usize) -> Result<(u32, Vec<Record>), Failure> {
+        let before = self.ticks();
+        let place = u64::from(before);
+        Refusal::UnfitCalendar.unless(self.fit, place)?;
+        Refusal::NoTicks.unless(count > 0, place)?;
+        Refusal::PastTheLast.unless(place + u64::from(count) <= u64::from(LAST), place)?;
+        Refusal::SmallTrace.unless(self.has_room(room, &[]), place)?;
+        let mut records = Vec::new(self.heap);
         for _ in 0..count {
-            if left < self.widest() {
+            if !self.has_room(room, records.as_slice()) {
                 break;
             }
             let tick = self.ticks();
             self.step()?;
-            let found = self.report(tick, trace)?;
-            self.records = self.records.saturating_add(u64::from(found));
-            left = left.saturating_sub(found as usize * 8);
-            done = done.saturating_add(1);
+            self.report(tick, &mut records)?;
         }
-        Ok(Advanced::Moved(done, room.saturating_sub(left)))
+        self.records = self.records.saturating_add(records.len() as u64);
+        Ok((self.ticks().saturating_sub(before), records))
     }
 
     // Whether some gate that looked ahead to this tick drives another level there than the tick before.
     fn changes_at(&self, tick: usize, last: usize) -> bool {
-        for (gate, start) in self.board.gates.iter().zip(self.starts.iter()) {
-            let seen = tick <= last.saturating_add(gate.delay as usize);
-            let before = self.output(*gate, *start, tick.saturating_sub(1));
-            if seen && self.output(*gate, *start, tick) != before {
-                return true;
-            }
-        }
-        false
+        let earlier = tick.saturating_sub(1);
+        self.drivers.iter().any(|driver| {
+            let seen = tick <= last.saturating_add(driver.gate.delay as usize);
+            seen && self.output(driver, tick) != self.output(driver, earlier)
+        })
     }
 
     // The next tick at which a gate is known to change, its inputs being known up to the last
     // complete tick. No gate looks further ahead than 64 ticks.
     pub fn next_change(&self) -> Option<u32> {
         let last = self.levels.len().checked_sub(1)?;
-        for ahead in 1..65usize {
-            let tick = last.saturating_add(ahead);
-            if self.changes_at(tick, last) {
-                return u32::try_from(tick).ok();
-            }
-        }
-        None
+        let mut ahead = last.saturating_add(1)..last.saturating_add(65);
+        let tick = ahead.find(|tick| self.changes_at(*tick, last))?;
+        u32::try_from(tick).ok()
     }
 
     // A net's level at the last complete tick, and whether it leaves nothing open.
-    pub fn read(&self, net: u32) -> Seen {
-        if !self.fit {
-            return Seen::Refused(16);
-        }
-        if net >= self.board.nets {
-            return Seen::Refused(22);
-        }
-        match self.levels.len().checked_sub(1) {
-            None => Seen::Refused(23),
-            Some(last) => {
-                let level = self.level(net, last);
-                Seen::Level(level, family::is_definite(self.family, level))
-            }
-        }
+    pub fn read(&self, net: u32) -> Result<(u32, bool), Fault> {
+        let ticks = u64::from(self.ticks());
+        Refusal::UnfitCalendar.unless(self.fit, ticks)?;
+        Refusal::NoSuchNet.unless(net < self.nets, ticks)?;
+        let Some(last) = self.levels.len().checked_sub(1) else {
+            return Err(Refusal::Untimely.at(ticks));
+        };
+        let level = self.level(net, last);
+        Ok((level, self.family.is_definite(level)))
     }
 }

@@ -4,38 +4,30 @@
 
 use oracle::family::Family;
 use oracle::script;
-use std::alloc::{AllocError, Global};
 use std::io;
+use vectors::values::Values;
 use vectors::vector;
-use vectors::vector::Answering;
 
-struct Oracle;
-
-impl Answering for Oracle {
-    fn answers(
-        &self,
-        heap: Global,
-        pulls: bool,
-        board: &[u8],
-        script: &[u8],
-    ) -> Result<Vec<u8>, AllocError> {
-        let family = if pulls { Family::Pulls } else { Family::Nine };
-        script::bench(heap, family, board, script)
+fn family_of(values: Values) -> Family {
+    match values {
+        Values::Nine => Family::Nine,
+        Values::Pulls => Family::Pulls,
     }
 }
 
 fn main(rt: HostRuntime) -> io::Result<()> {
     let heap = rt.alloc();
-    for index in 0..100 {
-        let Some(v) = vector::nth(heap, index)? else {
-            break;
+    let vectors = vector::all(heap)?;
+    for v in vectors.iter() {
+        let (family, board) = (family_of(v.values), v.board.as_slice());
+        let answers = script::bench(heap, family, board, v.script.as_bytes())?;
+        let verdict = if v.agrees(answers.as_bytes()) {
+            "agrees"
+        } else {
+            "DIFFERS"
         };
         let name = v.name;
-        if vector::agrees(heap, &Oracle, &v)? {
-            println!(rt; "{name} agrees")?;
-        } else {
-            println!(rt; "{name} DIFFERS")?;
-        }
+        println!(rt; "{name} {verdict}")?;
     }
     Ok(())
 }

@@ -1,18 +1,20 @@
 // Small circuits with waveforms worked out by hand.
 use crate::laid;
-use crate::laid::Row;
+use crate::laid::{Gate, Kind};
+use crate::values::Values;
 use crate::vector::Vector;
 use std::alloc::{AllocError, Global};
 
-const NOT: u8 = 2;
-
-const AND: u8 = 3;
-
-const NAND: u8 = 6;
-
-const TRI: u8 = 9;
-
-const PULL_UP: u8 = 10;
+// A gate one tick late.
+fn gate(kind: Kind, a: u16, b: u16, out: u16) -> Gate {
+    Gate {
+        kind,
+        a,
+        b,
+        out,
+        delay: 1,
+    }
+}
 
 // A port and its NOT, two ticks late; the file is written out byte by byte.
 // The NOT is U at ticks 0 and 1, and at tick 2 the NOT of the 1 that the port had at tick 0.
@@ -23,11 +25,11 @@ pub fn inverter(heap: Global) -> Result<Vector, AllocError> {
           \x02\x00\x00\x00\x00\x00\x01\x00\x02\
           \x00\x00\x00\x01",
     )?;
-    let script = Vec::from_slice(heap, b"drive 0 1\nadvance 4\nread 1\nread 9\n")?;
-    let expected = Vec::from_slice(heap, b"ok\n0 0 1\n2 1 0\ndone 4\n0 definite\nno 4 22 r 4\n")?;
+    let script = String::from_str(heap, "drive 0 1\nadvance 4\nread 1\nread 9\n")?;
+    let expected = String::from_str(heap, "ok\n0 0 1\n2 1 0\ndone 4\n0 definite\nno 4 22 r 4\n")?;
     Ok(Vector {
         name: "inverter",
-        pulls: false,
+        values: Values::Nine,
         board,
         script,
         expected,
@@ -42,30 +44,30 @@ pub fn inverter(heap: Global) -> Result<Vector, AllocError> {
 // so 6 rises at 15 and Q falls at 16.
 pub fn d_latch(heap: Global) -> Result<Vector, AllocError> {
     let gates = [
-        Row(NOT, 0, 0, 2, 1),
-        Row(NAND, 0, 1, 3, 1),
-        Row(NAND, 2, 1, 4, 1),
-        Row(NAND, 3, 6, 5, 1),
-        Row(NAND, 4, 5, 6, 1),
+        gate(Kind::Not, 0, 0, 2),
+        gate(Kind::Nand, 0, 1, 3),
+        gate(Kind::Nand, 2, 1, 4),
+        gate(Kind::Nand, 3, 6, 5),
+        gate(Kind::Nand, 4, 5, 6),
     ];
     let board = laid::file(heap, 7, 2, &gates, &[0, 1, 5, 6])?;
-    let script = Vec::from_slice(
+    let script = String::from_str(
         heap,
-        b"drive 0 1\ndrive 1 1\nadvance 6\n\
+        "drive 0 1\ndrive 1 1\nadvance 6\n\
           drive 1 0\nadvance 3\n\
           drive 0 0\nadvance 4\nread 5\n\
           drive 1 1\nadvance 6\nread 5\nread 6\n",
     )?;
-    let expected = Vec::from_slice(
+    let expected = String::from_str(
         heap,
-        b"ok\nok\n0 0 1\n0 1 1\n2 5 1\n3 6 0\ndone 6\n\
+        "ok\nok\n0 0 1\n0 1 1\n2 5 1\n3 6 0\ndone 6\n\
           ok\n6 1 0\ndone 3\n\
           ok\n9 0 0\ndone 4\n1 definite\n\
           ok\n13 1 1\n15 6 1\n16 5 0\ndone 6\n0 definite\n1 definite\n",
     )?;
     Ok(Vector {
         name: "d_latch",
-        pulls: false,
+        values: Values::Nine,
         board,
         script,
         expected,
@@ -78,25 +80,25 @@ pub fn d_latch(heap: Global) -> Result<Vector, AllocError> {
 // at 7: both still rise at 7; from 8 on output 2 is held at 1 and output 3 sees 1 and 1 and falls.
 // Released again at 11 the latch keeps what it has.
 pub fn rs_latch(heap: Global) -> Result<Vector, AllocError> {
-    let gates = [Row(NAND, 0, 3, 2, 1), Row(NAND, 1, 2, 3, 1)];
+    let gates = [gate(Kind::Nand, 0, 3, 2), gate(Kind::Nand, 1, 2, 3)];
     let board = laid::file(heap, 4, 2, &gates, &[0, 1, 2, 3])?;
-    let script = Vec::from_slice(
+    let script = String::from_str(
         heap,
-        b"drive 0 0\ndrive 1 0\nadvance 3\n\
+        "drive 0 0\ndrive 1 0\nadvance 3\n\
           drive 0 1\ndrive 1 1\nadvance 4\n\
           drive 0 0\nadvance 4\nread 2\nread 3\n\
           drive 0 1\nadvance 3\nread 2\nread 3\n",
     )?;
-    let expected = Vec::from_slice(
+    let expected = String::from_str(
         heap,
-        b"ok\nok\n0 0 0\n0 1 0\n1 2 1\n1 3 1\ndone 3\n\
+        "ok\nok\n0 0 0\n0 1 0\n1 2 1\n1 3 1\ndone 3\n\
           ok\nok\n3 0 1\n3 1 1\n4 2 0\n4 3 0\n5 2 1\n5 3 1\n6 2 0\n6 3 0\ndone 4\n\
           ok\n7 0 0\n7 2 1\n7 3 1\n8 3 0\ndone 4\n1 definite\n0 definite\n\
           ok\n11 0 1\ndone 3\n1 definite\n0 definite\n",
     )?;
     Ok(Vector {
         name: "rs_latch",
-        pulls: false,
+        values: Values::Nine,
         board,
         script,
         expected,
@@ -118,25 +120,25 @@ pub fn rs_latch(heap: Global) -> Result<Vector, AllocError> {
 // Its not-q rises at 33 and 73: q of the second rises at 35 and falls at 77. Counted: 1, 2, 3, 0.
 pub fn ripple_counter(heap: Global) -> Result<Vector, AllocError> {
     let gates = [
-        Row(NAND, 5, 2, 1, 1),
-        Row(NAND, 1, 0, 2, 1),
-        Row(AND, 2, 0, 3, 1),
-        Row(NAND, 3, 5, 4, 1),
-        Row(NAND, 4, 7, 5, 1),
-        Row(NAND, 2, 7, 6, 1),
-        Row(NAND, 4, 6, 7, 1),
-        Row(NAND, 12, 9, 8, 1),
-        Row(NAND, 8, 7, 9, 1),
-        Row(AND, 9, 7, 10, 1),
-        Row(NAND, 10, 12, 11, 1),
-        Row(NAND, 11, 14, 12, 1),
-        Row(NAND, 9, 14, 13, 1),
-        Row(NAND, 11, 13, 14, 1),
+        gate(Kind::Nand, 5, 2, 1),
+        gate(Kind::Nand, 1, 0, 2),
+        gate(Kind::And, 2, 0, 3),
+        gate(Kind::Nand, 3, 5, 4),
+        gate(Kind::Nand, 4, 7, 5),
+        gate(Kind::Nand, 2, 7, 6),
+        gate(Kind::Nand, 4, 6, 7),
+        gate(Kind::Nand, 12, 9, 8),
+        gate(Kind::Nand, 8, 7, 9),
+        gate(Kind::And, 9, 7, 10),
+        gate(Kind::Nand, 10, 12, 11),
+        gate(Kind::Nand, 11, 14, 12),
+        gate(Kind::Nand, 9, 14, 13),
+        gate(Kind::Nand, 11, 13, 14),
     ];
     let board = laid::file(heap, 15, 1, &gates, &[0, 6, 13])?;
-    let script = Vec::from_slice(
+    let script = String::from_str(
         heap,
-        b"wake 0 1\nwake 1 1\nwake 2 0\nwake 3 1\nwake 4 0\nwake 5 0\nwake 6 1\n\
+        "wake 0 1\nwake 1 1\nwake 2 0\nwake 3 1\nwake 4 0\nwake 5 0\nwake 6 1\n\
           wake 7 0\nwake 8 1\nwake 9 1\nwake 10 0\nwake 11 1\nwake 12 0\nwake 13 1\n\
           drive 0 0\nadvance 10\n\
           drive 0 1\nadvance 10\ndrive 0 0\nadvance 10\n\
@@ -144,9 +146,9 @@ pub fn ripple_counter(heap: Global) -> Result<Vector, AllocError> {
           drive 0 1\nadvance 10\ndrive 0 0\nadvance 10\n\
           drive 0 1\nadvance 10\ndrive 0 0\nadvance 10\n",
     )?;
-    let expected = Vec::from_slice(
+    let expected = String::from_str(
         heap,
-        b"ok\nok\nok\nok\nok\nok\nok\nok\nok\nok\nok\nok\nok\nok\n\
+        "ok\nok\nok\nok\nok\nok\nok\nok\nok\nok\nok\nok\nok\nok\n\
           ok\n0 0 0\n0 6 0\n0 13 0\ndone 10\n\
           ok\n10 0 1\n12 6 1\ndone 10\nok\n20 0 0\ndone 10\n\
           ok\n30 0 1\n34 6 0\n35 13 1\ndone 10\nok\n40 0 0\ndone 10\n\
@@ -155,7 +157,7 @@ pub fn ripple_counter(heap: Global) -> Result<Vector, AllocError> {
     )?;
     Ok(Vector {
         name: "ripple_counter",
-        pulls: false,
+        values: Values::Nine,
         board,
         script,
         expected,
@@ -166,9 +168,9 @@ pub fn ripple_counter(heap: Global) -> Result<Vector, AllocError> {
 // a pull-up.
 fn bus(heap: Global) -> Result<Vec<u8>, AllocError> {
     let gates = [
-        Row(TRI, 0, 1, 4, 1),
-        Row(TRI, 2, 3, 4, 1),
-        Row(PULL_UP, 0, 0, 4, 1),
+        gate(Kind::Tri, 0, 1, 4),
+        gate(Kind::Tri, 2, 3, 4),
+        gate(Kind::PullUp, 0, 0, 4),
     ];
     laid::file(heap, 5, 4, &gates, &[4])
 }
@@ -182,9 +184,9 @@ fn bus(heap: Global) -> Result<Vec<u8>, AllocError> {
 // The second let go by L, from 14: H, at 15. Enable U, from 16: U, at 17.
 pub fn bus_of_nine(heap: Global) -> Result<Vector, AllocError> {
     let board = bus(heap)?;
-    let script = Vec::from_slice(
+    let script = String::from_str(
         heap,
-        b"drive 0 0\ndrive 1 0\ndrive 2 1\ndrive 3 0\nadvance 2\nread 4\n\
+        "drive 0 0\ndrive 1 0\ndrive 2 1\ndrive 3 0\nadvance 2\nread 4\n\
           drive 1 1\nadvance 2\nread 4\n\
           drive 3 1\nadvance 2\nread 4\n\
           drive 1 0\nadvance 2\nread 4\n\
@@ -194,9 +196,9 @@ pub fn bus_of_nine(heap: Global) -> Result<Vector, AllocError> {
           drive 3 L\nadvance 2\n\
           drive 1 U\nadvance 2\nread 4\n",
     )?;
-    let expected = Vec::from_slice(
+    let expected = String::from_str(
         heap,
-        b"ok\nok\nok\nok\n1 4 H\ndone 2\nH definite\n\
+        "ok\nok\nok\nok\n1 4 H\ndone 2\nH definite\n\
           ok\n3 4 0\ndone 2\n0 definite\n\
           ok\n5 4 X\ndone 2\nX open\n\
           ok\n7 4 1\ndone 2\n1 definite\n\
@@ -208,7 +210,7 @@ pub fn bus_of_nine(heap: Global) -> Result<Vector, AllocError> {
     )?;
     Ok(Vector {
         name: "bus_of_nine",
-        pulls: false,
+        values: Values::Nine,
         board,
         script,
         expected,
@@ -223,9 +225,9 @@ pub fn bus_of_nine(heap: Global) -> Result<Vector, AllocError> {
 // The first's data unknown as well, from 12: up to 6 either way, 3606, at 13.
 pub fn bus_of_pulls(heap: Global) -> Result<Vector, AllocError> {
     let board = bus(heap)?;
-    let script = Vec::from_slice(
+    let script = String::from_str(
         heap,
-        b"drive 0 0033\ndrive 1 0066\ndrive 2 6600\ndrive 3 0066\nadvance 2\nread 4\n\
+        "drive 0 0033\ndrive 1 0066\ndrive 2 6600\ndrive 3 0066\nadvance 2\nread 4\n\
           drive 1 6600\nadvance 2\nread 4\n\
           drive 3 7700\nadvance 2\nread 4\n\
           drive 1 0011\nadvance 2\nread 4\n\
@@ -233,9 +235,9 @@ pub fn bus_of_pulls(heap: Global) -> Result<Vector, AllocError> {
           drive 3 0066\nadvance 2\n\
           drive 0 0707\nadvance 2\nread 4\n",
     )?;
-    let expected = Vec::from_slice(
+    let expected = String::from_str(
         heap,
-        b"ok\nok\nok\nok\n1 4 3300\ndone 2\n3300 definite\n\
+        "ok\nok\nok\nok\n1 4 3300\ndone 2\n3300 definite\n\
           ok\n3 4 3366\ndone 2\n3366 definite\n\
           ok\n5 4 6666\ndone 2\n6666 definite\n\
           ok\n7 4 6600\ndone 2\n6600 definite\n\
@@ -245,7 +247,7 @@ pub fn bus_of_pulls(heap: Global) -> Result<Vector, AllocError> {
     )?;
     Ok(Vector {
         name: "bus_of_pulls",
-        pulls: true,
+        values: Values::Pulls,
         board,
         script,
         expected,

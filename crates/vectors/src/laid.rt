@@ -1,20 +1,55 @@
 // Lays out the bytes of a netlist file.
 use std::alloc::{AllocError, Global};
 
-// A gate as the file has it: kind, a, b, out and delay.
-#[derive(Clone, Copy)]
-pub struct Row(pub u8, pub u16, pub u16, pub u16, pub u16);
-
-fn push_word(out: &mut Vec<u8>, n: u16) -> Result<(), AllocError> {
-    out.extend_from_slice(&n.to_be_bytes())
+// The kinds of gates; the numbers are those of a file.
+#[derive(Clone, Copy, Debug, PartialEq, Eq)]
+pub enum Kind {
+    Buffer = 1,
+    Not,
+    And,
+    Or,
+    Xor,
+    Nand,
+    Nor,
+    Xnor,
+    Tri,
+    PullUp,
+    PullDown,
 }
 
-fn push_row(out: &mut Vec<u8>, row: Row) -> Result<(), AllocError> {
-    out.extend_from_slice(&[row.0])?;
-    push_word(out, row.1)?;
-    push_word(out, row.2)?;
-    push_word(out, row.3)?;
-    push_word(out, row.4)
+impl From<Kind> for u8 {
+    fn from(kind: Kind) -> u8 {
+        kind as u8
+    }
+}
+
+impl Kind {
+    // Pulls use no input.
+    pub fn reads_a(self) -> bool {
+        !matches!(self, Kind::PullUp | Kind::PullDown)
+    }
+
+    // A buffer and a NOT use only the first.
+    pub fn reads_b(self) -> bool {
+        self.reads_a() && !matches!(self, Kind::Buffer | Kind::Not)
+    }
+}
+
+// A gate as the file has it.
+#[derive(Clone, Copy, Debug, PartialEq, Eq)]
+pub struct Gate {
+    pub kind: Kind,
+    pub a: u16,
+    pub b: u16,
+    pub out: u16,
+    pub delay: u16,
+}
+
+fn push_words(out: &mut Vec<u8>, words: &[u16]) -> Result<(), AllocError> {
+    for word in words {
+        out.extend_from_slice(&word.to_be_bytes())?;
+    }
+    Ok(())
 }
 
 fn count(n: usize) -> u16 {
@@ -26,20 +61,18 @@ pub fn file(
     heap: Global,
     nets: u16,
     ports: u16,
-    gates: &[Row],
+    gates: &[Gate],
     watches: &[u16],
 ) -> Result<Vec<u8>, AllocError> {
     let mut out = Vec::from_slice(heap, b"NLB")?;
-    push_word(&mut out, 1)?;
-    push_word(&mut out, nets)?;
-    push_word(&mut out, ports)?;
-    push_word(&mut out, count(gates.len()))?;
-    push_word(&mut out, count(watches.len()))?;
-    for row in gates {
-        push_row(&mut out, *row)?;
+    push_words(
+        &mut out,
+        &[1, nets, ports, count(gates.len()), count(watches.len())],
+    )?;
+    for gate in gates {
+        out.push(u8::from(gate.kind))?;
+        push_words(&mut out, &[gate.a, gate.b, gate.out, gate.delay])?;
     }
-    for net in watches {
-        push_word(&mut out, *net)?;
-    }
+    push_words(&mut out, watches)?;
     Ok(out)
 }

@@ -6,4 +6,5 @@
 pub mod circuits;
 pub mod laid;
 pub mod tables;
+pub mod values;
 pub mod vector;

@@ -1,7 +1,8 @@
 // The tables of IEEE 1164 in full, as the standard prints them: rows are the left operand,
 // columns the right one, both in the order U X 0 1 Z W L H -. A board looks up every entry.
 use crate::laid;
-use crate::laid::Row;
+use crate::laid::{Gate, Kind};
+use crate::values::Values;
 use crate::vector::Vector;
 use std::alloc::{AllocError, Global};
 
@@ -42,43 +43,39 @@ pub const RESOLUTION: &[u8] = b"\
     UUUUUUUUU UXXXXXXXX UX0X0000X UXX11111X UX01ZWLHX UX01WWWWX UX01LWLWX UX01HWWHX UXXXXXXXX";
 
 // The letter in a row and a column; the rows stand one space apart.
-fn letter_in(table: &[u8], row: u16, column: u16) -> u8 {
-    table
-        .get(row as usize * 10 + column as usize)
-        .copied()
-        .unwrap_or(b'?')
+fn letter_in(table: &[u8], row: u16, column: u16) -> char {
+    let place = row as usize * 10 + column as usize;
+    table.get(place).map_or('?', |letter| char::from(*letter))
 }
 
-fn letter(code: u16) -> u8 {
-    LETTERS.get(code as usize).copied().unwrap_or(b'?')
-}
-
-// A line of a word, two numbers at most and a letter, as a script and its answers have them.
-fn push_line(heap: Global, out: &mut Vec<u8>, word: &str, n: u16, c: u8) -> Result<(), AllocError> {
-    let start = format!(in heap; "{word} {n} ")?;
-    out.extend_from_slice(start.as_bytes())?;
-    out.extend_from_slice(&[c, b'\n'])
+fn letter(code: u16) -> char {
+    LETTERS
+        .get(code as usize)
+        .map_or('?', |letter| char::from(*letter))
 }
 
 // All 81 gates of one kind over nine ports, one port for each value; gate (i, j) drives net 9 + 9 i + j.
-fn all_pairs(heap: Global, kind: u8) -> Result<Vec<u8>, AllocError> {
-    let mut gates = Vec::new(heap);
-    let mut watches = Vec::new(heap);
-    for at in 0..81u16 {
-        let b = if kind > 2 { at % 9 } else { 0 };
-        gates.push(Row(kind, at / 9, b, 9 + at, 1))?;
-        watches.push(9 + at)?;
-    }
+fn all_pairs(heap: Global, kind: Kind) -> Result<Vec<u8>, AllocError> {
+    let gates = (0..81u16)
+        .map(|at| Gate {
+            kind,
+            a: at / 9,
+            b: if kind.reads_b() { at % 9 } else { 0 },
+            out: 9 + at,
+            delay: 1,
+        })
+        .collect::<Vec<Gate>>(heap)?;
+    let watches = (9..90).collect::<Vec<u16>>(heap)?;
     laid::file(heap, 90, 9, gates.as_slice(), watches.as_slice())
 }
 
 // One tick after the ports have their values each gate shows its entry; a U is no change.
-fn all_entries(heap: Global, table: &[u8], word: &str, first: u16) -> Result<Vec<u8>, AllocError> {
-    let mut out = Vec::new(heap);
+fn all_entries(heap: Global, table: &[u8], tick: u16, first: u16) -> Result<String, AllocError> {
+    let mut out = String::new(heap);
     for at in 0..81u16 {
-        let entry = letter_in(table, at / 9, at % 9);
-        if entry != b'U' {
-            push_line(heap, &mut out, word, first.saturating_add(at), entry)?;
+        let (net, entry) = (first.saturating_add(at), letter_in(table, at / 9, at % 9));
+        if entry != 'U' {
+            writeln!(out, "{tick} {net} {entry}")?;
         }
     }
     Ok(out)
@@ -88,23 +85,23 @@ fn all_entries(heap: Global, table: &[u8], word: &str, first: u16) -> Result<Vec
 pub fn gate_table(
     heap: Global,
     name: &'static str,
-    kind: u8,
+    kind: Kind,
     table: &[u8],
 ) -> Result<Vector, AllocError> {
     let board = all_pairs(heap, kind)?;
-    let mut script = Vec::new(heap);
-    let mut expected = Vec::new(heap);
+    let mut script = String::new(heap);
+    let mut expected = String::new(heap);
     for code in 0..9u16 {
-        push_line(heap, &mut script, "drive", code, letter(code))?;
-        expected.extend_from_slice(b"ok\n")?;
+        let value = letter(code);
+        writeln!(script, "drive {code} {value}")?;
+        expected.push_str("ok\n")?;
     }
-    script.extend_from_slice(b"advance 2\n")?;
-    let entries = all_entries(heap, table, "1", 9)?;
-    expected.extend_from_slice(entries.as_slice())?;
-    expected.extend_from_slice(b"done 2\n")?;
+    script.push_str("advance 2\n")?;
+    expected.push_str(all_entries(heap, table, 1, 9)?.as_str())?;
+    expected.push_str("done 2\n")?;
     Ok(Vector {
         name,
-        pulls: false,
+        values: Values::Nine,
         board,
         script,
         expected,
@@ -113,32 +110,35 @@ pub fn gate_table(
 
 // 81 ports, each with a gate on it that is still at its start level at tick 0.
 fn all_meetings(heap: Global) -> Result<Vec<u8>, AllocError> {
-    let mut gates = Vec::new(heap);
-    let mut watches = Vec::new(heap);
-    for at in 0..81u16 {
-        gates.push(Row(1, 0, 0, at, 64))?;
-        watches.push(at)?;
-    }
+    let gates = (0..81u16)
+        .map(|at| Gate {
+            kind: Kind::Buffer,
+            a: 0,
+            b: 0,
+            out: at,
+            delay: 64,
+        })
+        .collect::<Vec<Gate>>(heap)?;
+    let watches = (0..81).collect::<Vec<u16>>(heap)?;
     laid::file(heap, 81, 81, gates.as_slice(), watches.as_slice())
 }
 
 // Looks up every entry of the resolution: the row's value by the port, the column's by the gate.
 pub fn resolution_table(heap: Global) -> Result<Vector, AllocError> {
     let board = all_meetings(heap)?;
-    let mut script = Vec::new(heap);
-    let mut expected = Vec::new(heap);
+    let mut script = String::new(heap);
+    let mut expected = String::new(heap);
     for at in 0..81u16 {
-        push_line(heap, &mut script, "drive", at, letter(at / 9))?;
-        push_line(heap, &mut script, "wake", at, letter(at % 9))?;
-        expected.extend_from_slice(b"ok\nok\n")?;
+        let (row, column) = (letter(at / 9), letter(at % 9));
+        write!(script, "drive {at} {row}\nwake {at} {column}\n")?;
+        expected.push_str("ok\nok\n")?;
     }
-    script.extend_from_slice(b"advance 1\n")?;
-    let entries = all_entries(heap, RESOLUTION, "0", 0)?;
-    expected.extend_from_slice(entries.as_slice())?;
-    expected.extend_from_slice(b"done 1\n")?;
+    script.push_str("advance 1\n")?;
+    expected.push_str(all_entries(heap, RESOLUTION, 0, 0)?.as_str())?;
+    expected.push_str("done 1\n")?;
     Ok(Vector {
         name: "resolution",
-        pulls: false,
+        values: Values::Nine,
         board,
         script,
         expected,
