@@ -19,12 +19,6 @@ use std::io::{BufWriter, Write};
 use std::{env, io};
 use wheel::wheel::Wheel;
 
-const BLANK: Entry = Entry {
-    tick: 0,
-    gate: 0,
-    code: 0,
-};
-
 fn main(rt: HostRuntime) -> io::Result<()> {
     let heap = rt.alloc();
     let bytes = board_bytes(&rt, heap, "board.nlb")?;
@@ -42,7 +36,7 @@ fn main(rt: HostRuntime) -> io::Result<()> {
 
 fn work(rt: &HostRuntime, board: Netlist) -> io::Result<()> {
     let heap = rt.alloc();
-    let mut entries = vec![in heap; BLANK; 65_536]?;
+    let mut entries = vec![in heap; Entry::BLANK; 65_536]?;
     let mut input = rt.stdin();
     let mut sink = BufWriter::new(heap, rt.stdout())?;
     let mut run: Run<NineValues, Heap> = Run::open(board, Heap::new(entries.as_mut_slice()));
@@ -54,7 +48,7 @@ fn work(rt: &HostRuntime, board: Netlist) -> io::Result<()> {
 fn work_both(rt: &HostRuntime, board: Netlist, bytes: &[u8], name: &str) -> io::Result<()> {
     let heap = rt.alloc();
     let again = board_of(bytes).unwrap_or(Netlist::new());
-    let mut entries = vec![in heap; BLANK; 65_536]?;
+    let mut entries = vec![in heap; Entry::BLANK; 65_536]?;
     let mut codes = vec![in heap; 0; 66_560]?;
     let mut input = rt.stdin();
     let mut file = File::open(rt, name)?;

@@ -1,5 +1,5 @@
 -- A whole line, from its parts.
-use Rattle.std.proofs.Common.{◌≡◌, ℕ, ◌≤◌, true, false, eqb, leb, List, length, Some, None, Ok, Err, Option, sym, refl, ap, subst, arith}
+use Rattle.std.proofs.Common.{◌≡◌, ℕ, ◌≤◌, true, eqb, leb, List, length, Some, None, Ok, Err, Option, sym, refl, ap, subst, arith}
 use Rattle.std.specs.Option.{option_map}
 use Rattle.std.proofs.lemmas.Bool.{and_parts, leb-true, both_ways}
 use Rattle.logic.specs.declared.family.Family.{Ghosts as Family}
@@ -16,16 +16,9 @@ use Rattle.script_text.proofs.Over.{lays_whole}
 use Rattle.script.specs.Faults.{noted}
 use Rattle.script.specs.Answers.{roomy, most_trace, note_text, fronted, granted, line_fault, line_text, line_after, line_wrote, Obeys, Answered}
 use Rattle.script.specs.declared.fault.ScriptFault.{ScriptFault}
-use Rattle.script.specs.declared.fault.ScriptFault.TheVariants.{SmallBuffers, NoCommand}
+use Rattle.script.specs.declared.fault.ScriptFault.TheVariants.{NoCommand}
 
 module _ {F D V : Type 0} (f : Family F V) (n : Named F V) (c : Calendar D) (x : Run F D V f c) (line : List ℕ) (number : ℕ) (out trace : List ℕ) where
-  pub small_answer : roomy out trace ≡ false → Answered f n c x line number out trace x out trace (0, Some (SmallBuffers number))
-  small_answer short = record {
-    small = λ e. (refl, refl);
-    answered = λ e. absurd (both_ways (roomy out trace) short e);
-    unchanged = λ e q. (refl, refl);
-  }
-
   module _ (yes : roomy out trace ≡ true) where
     room : 40000 ≤ length out
     room = leb-true 40000 (length out) (and_parts (leb 40000 (length out)) (eqb (length trace) most_trace) yes).0

@@ -5,7 +5,7 @@ ghost use Rattle.script.specs.Faults.{line_of, number, letter, place};
 use run::state::RunFault;
 
 // Why a line is refused; each case holds the number of the line.
-#[derive(Clone, Copy)]
+#[derive(Clone, Copy, Debug, PartialEq, Eq)]
 pub enum ScriptFault {
     SmallBuffers(u32),
     NoCommand(u32),
@@ -14,7 +14,7 @@ pub enum ScriptFault {
 }
 
 // A fault of the run, and the line that caused it.
-#[derive(Clone, Copy)]
+#[derive(Clone, Copy, Debug, PartialEq, Eq)]
 pub struct AtLine {
     pub line: u32,
     pub fault: RunFault,

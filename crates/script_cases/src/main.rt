@@ -16,12 +16,6 @@ use std::alloc::Global;
 use std::io;
 use std::io::{BufWriter, Read, Stdout};
 
-const BLANK: Entry = Entry {
-    tick: 0,
-    gate: 0,
-    code: 0,
-};
-
 const RING: &[u8] = b"wake 0 0\nadvance 5000\nadvance 3\nread 0\n";
 
 const UNFIT: &[u8] = b"wake 0 0\ndrive 0 1\nadvance 1\nadvance 0\nread 0\nread 99\nhello\n";
@@ -36,8 +30,8 @@ const BUFFERS: [(usize, usize); 5] = [
 
 fn main(rt: HostRuntime) -> io::Result<()> {
     let heap = rt.alloc();
-    let mut entries = vec![in heap; BLANK; 4_096]?;
-    let mut few = [BLANK; 1];
+    let mut entries = vec![in heap; Entry::BLANK; 4_096]?;
+    let mut few = [Entry::BLANK; 1];
     let mut input = rt.stdin();
     let mut full = RING;
     let mut unfit = UNFIT;

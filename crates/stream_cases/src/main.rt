@@ -17,12 +17,6 @@ use std::io;
 use std::io::{BufWriter, Read, Stdout, Write};
 use wheel::wheel::Wheel;
 
-const BLANK: Entry = Entry {
-    tick: 0,
-    gate: 0,
-    code: 0,
-};
-
 const EMPTY: &[u8] = b"";
 
 const RESET: &[u8] = b"drive 0 0\ndrive 1 1\nadvance 4\n";
@@ -49,7 +43,7 @@ fn alone<R: Read>(
     script: &mut R,
     sink: &mut BufWriter<Stdout>,
 ) -> io::Result<()> {
-    let mut entries = vec![in heap; BLANK; 4_096]?;
+    let mut entries = vec![in heap; Entry::BLANK; 4_096]?;
     let bytes = board_bytes(rt, heap, "board.nlb")?;
     let board = board_of(bytes.as_slice()).unwrap_or(Netlist::new());
     let mut run: Run<NineValues, Heap> = Run::open(board, Heap::new(entries.as_mut_slice()));
@@ -63,7 +57,7 @@ fn pair(
     other: &[u8],
     sink: &mut BufWriter<Stdout>,
 ) -> io::Result<()> {
-    let mut entries = vec![in heap; BLANK; 4_096]?;
+    let mut entries = vec![in heap; Entry::BLANK; 4_096]?;
     let mut codes = vec![in heap; 0; 66_560]?;
     let bytes = board_bytes(rt, heap, "latch.nlb")?;
     let latch = board_of(bytes.as_slice()).unwrap_or(Netlist::new());

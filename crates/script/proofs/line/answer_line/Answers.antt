@@ -1,6 +1,6 @@
 use Rattle.std.proofs.Common.{◌≡◌, ◌≤◌, eqb, leb, length, sym, ◌∙◌, rules}
 use Rattle.std.proofs.lemmas.Bool.{and_parts, leb-true, eqb-true}
-use Rattle.script.proofs.Conclusions.{small_answer, none_answer, ok_answer, err_answer}
+use Rattle.script.proofs.Conclusions.{none_answer, ok_answer, err_answer}
 use Rattle.script.proofs.line.answer_line.Goals as goal
 
 pub obey-requires : goal.obey-requires
@@ -9,9 +9,6 @@ obey-requires g c =
     let room : 40000 ≤ length c.args.out.now = leb-true 40000 (length c.args.out.now) both.0 in
     let long : length c.args.trace.now ≡ 16384 = eqb-true (length c.args.trace.now) 16384 both.1 in
     search rules
-
-pub returns-then-not-fit : goal.returns-then-not-fit
-returns-then-not-fit g c = small_answer g.F.Family g.F.Named g.C.Calendar c.args.run.now c.args.line.now c.args.number c.args.out.now c.args.trace.now (sym c.buffers_fit-fit.ensures ∙ c.if-not-fit.true)
 
 pub returns-in-None : goal.returns-in-None
 returns-in-None g c = none_answer g.F.Family g.F.Named g.C.Calendar c.args.run.now c.args.line.now c.args.number c.args.out.now c.args.trace.now (sym c.buffers_fit-fit.ensures ∙ c.if-not-fit.false) (sym c.in-None.ensures.reads) c.say.result c.say.new.out c.say.ensures.lays c.say.ensures.short
