@@ -1,3 +1,6 @@
+ghost use Rattle.std.specs.Prelude.{◌≤◌};
+ghost use denote.Memory.{mem};
+
 use crate::board::{EVERY_NET, WATCHED};
 use crate::choice::{Choice, Queue, Values};
 use anyhow::anyhow;
@@ -29,16 +32,6 @@ struct Lap {
     ticks: u32,
     records: u64,
     micros: u128,
-}
-
-impl Lap {
-    fn new(micros: u128, (ticks, records): (u32, u64)) -> Lap {
-        Lap {
-            ticks,
-            records,
-            micros,
-        }
-    }
 }
 
 // Advances until as many ticks are complete, and says on long runs how far it is.
@@ -81,47 +74,44 @@ fn wake_all<F: Family, C: Calendar>(run: &mut Run<F, C>, high: &[bool]) {
     }
 }
 
-// Wakes the gates of a run and advances it, and answers the microseconds that the ticks took.
-fn work<F: Family, C: Calendar>(
+// Opens a run of the file on the calendar, and advances it.
+// Kept as it is: a run on a wheel is not covered where it is held at its concrete type, so the owner is generic and requires sizes.
+fn run_on<F: Family + Drop, C: Calendar + Drop>(
     rt: &HostRuntime,
-    run: &mut Run<F, C>,
-    high: &[bool],
+    file: &[u8],
+    calendar: C,
     ticks: u32,
-) -> anyhow::Result<u128> {
-    wake_all(run, high);
+) -> anyhow::Result<Lap>
+    requires calendar { (mem C.row).size ≤ 1048576 }
+    requires value { (mem F.Value.row).size ≤ 64 }
+{
+    let mut net = Netlist::new();
+    look_over(file, &mut net).map_err(|_| anyhow!("the board is refused"))?;
+    let high = starts(rt.alloc(), &net)?;
+    let mut run: Run<F, C> = Run::open(net, calendar);
+    wake_all(&mut run, high.as_slice());
     let mut trace = vec![in rt.alloc(); 0; TRACE]?;
     let start = Instant::now(rt)?;
-    advance_to(rt, run, ticks, trace.as_mut_slice())?;
-    Ok(start.elapsed(rt)?.as_micros())
+    advance_to(rt, &mut run, ticks, trace.as_mut_slice())?;
+    let micros = start.elapsed(rt)?.as_micros();
+    let (ticks, records) = run.finish();
+    Ok(Lap {
+        ticks,
+        records,
+        micros,
+    })
 }
 
 fn run_choice(rt: &HostRuntime, choice: Choice, file: &[u8], ticks: u32) -> anyhow::Result<Lap> {
-    let mut net = Netlist::new();
-    look_over(file, &mut net).map_err(|_| anyhow!("the board is refused"))?;
-    let starts = starts(rt.alloc(), &net)?;
-    let high = starts.as_slice();
     let mut entries = vec![in rt.alloc(); Entry::BLANK; ENTRIES]?;
     let mut slots = vec![in rt.alloc(); 0; SLOTS]?;
     let heap = Heap::new(entries.as_mut_slice());
     let wheel = Wheel::new(slots.as_mut_slice());
-    // Kept as it is: one generic function that owns a run would require a size of its calendar and of its values.
     match (choice.queue, choice.values) {
-        (Queue::Heap, Values::Nine) => {
-            let mut run: Run<NineValues, Heap> = Run::open(net, heap);
-            Ok(Lap::new(work(rt, &mut run, high, ticks)?, run.finish()))
-        }
-        (Queue::Heap, Values::Pull) => {
-            let mut run: Run<PullRanges, Heap> = Run::open(net, heap);
-            Ok(Lap::new(work(rt, &mut run, high, ticks)?, run.finish()))
-        }
-        (Queue::Wheel, Values::Nine) => {
-            let mut run: Run<NineValues, Wheel> = Run::open(net, wheel);
-            Ok(Lap::new(work(rt, &mut run, high, ticks)?, run.finish()))
-        }
-        (Queue::Wheel, Values::Pull) => {
-            let mut run: Run<PullRanges, Wheel> = Run::open(net, wheel);
-            Ok(Lap::new(work(rt, &mut run, high, ticks)?, run.finish()))
-        }
+        (Queue::Heap, Values::Nine) => run_on::<NineValues, Heap>(rt, file, heap, ticks),
+        (Queue::Heap, Values::Pull) => run_on::<PullRanges, Heap>(rt, file, heap, ticks),
+        (Queue::Wheel, Values::Nine) => run_on::<NineValues, Wheel>(rt, file, wheel, ticks),
+        (Queue::Wheel, Values::Pull) => run_on::<PullRanges, Wheel>(rt, file, wheel, ticks),
     }
 }
 
