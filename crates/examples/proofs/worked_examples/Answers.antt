@@ -4,6 +4,3 @@ use Rattle.examples.proofs.worked_examples.Goals as goal
 
 pub returns-then-nines_agree : goal.returns-then-nines_agree
 returns-then-nines_agree c = record { agrees = search rules; examples = examples; inviting = inviting }
-
-pub returns-else-nines_agree : goal.returns-else-nines_agree
-returns-else-nines_agree c = record { agrees = search rules; examples = examples; inviting = inviting }

@@ -1,12 +1,9 @@
-use Rattle.std.proofs.Common.{◌≡◌, ◌<◌, length, get_or, set, sym, refl, ap, ◌∙◌, ⊎_elim, add-one, arith, length-set, get_or-set_other, get_or-set_same}
+use Rattle.std.proofs.Common.{◌<◌, length, get_or, set, sym, ap, ◌∙◌, ⊎_elim, add-one, arith, length-set, get_or-set_other, get_or-set_same}
 use Rattle.std.proofs.lemmas.Bool.{cases_eq}
 use Rattle.signal.specs.Circuit.{gate}
 use Rattle.netlist.specs.Looked.{contents}
 use Rattle.tick.specs.Plans.{result_at, plans, put_changed}
 use Rattle.tick.proofs.plan.plan.Goals as goal
-
-pub loop-g-init : goal.loop-g-init
-loop-g-init g c = (refl, (λ k h. absurd (omega arith)), (λ k h. refl), refl)
 
 pub loop-g-preserved : goal.loop-g-preserved
 loop-g-preserved g c =
@@ -32,16 +29,3 @@ loop-g-preserved g c =
           ∙ (λ j. put_changed L (gate C i).delay i c.args.moment.tick r (inv.2 i (omega arith) j) (inv.3 j))
           ∙ sym (ap (λ k. plans L C levels was c.args.moment.tick k (g.C.Calendar.meaning c.args.calendar.now)) (add-one i)),
     )
-
-pub returns : goal.returns
-returns g c =
-    let L = g.F.Family.logic in
-    let net = c.args.net.now in
-    let e : c.loop-g.g ≡ net.head.gates = omega (arith, c.loop-g-test.false, c.loop-g.auto.g-end) in
-    let inv = c.loop-g.invariant in
-    record {
-      long = inv.0;
-      planned = λ k h. inv.1 k (omega arith);
-      rest = λ k h. inv.2 k (omega arith);
-      calendar = inv.3 ∙ ap (λ k. plans L (contents net) c.args.levels.now c.args.planned.now c.args.moment.tick k (g.C.Calendar.meaning c.args.calendar.now)) e;
-    }

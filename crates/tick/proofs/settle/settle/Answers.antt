@@ -2,11 +2,10 @@ use Rattle.std.proofs.Common.{◌≡◌, ℕ, ◌+◌, ◌<◌, ◌≤◌, true,
 use Rattle.std.specs.Bool.{then_some}
 use Rattle.std.proofs.lemmas.List.{get_or-take, get_or_default, length-take-le, length-replicate}
 use Rattle.netlist.specs.Parts.{blank}
-use Rattle.signal.specs.Circuit.{gate_count}
 use Rattle.netlist.specs.Looked.{contents}
 use Rattle.netlist.proofs.Contents.{gate_count as gates-count}
 use Rattle.tick.specs.Settled.{drivers_below}
-use Rattle.tick.proofs.Shows.{Shows, shows_ports, shows_gate, shows_all}
+use Rattle.tick.proofs.Shows.{Shows, shows_ports, shows_gate}
 use Rattle.tick.proofs.settle.settle.Goals as goal
 
 pub loop-g-init : goal.loop-g-init
@@ -33,12 +32,3 @@ loop-g-preserved g c =
     subst (λ v. Shows L (set c.loop-g.levels x.out v) (set c.loop-g.marks x.out true) (λ (n : ℕ). drivers_below L C c.args.ports.now drives n (i + 1))) (sym c.joined.ensures)
     (shows_gate L C c.args.ports.now drives c.loop-g.levels c.loop-g.marks i x.out _ _ out refl
     (c.then_some.ensures ∙ ap (then_some (get_or c.loop-g.marks x.out false)) e) d c.loop-g.invariant)
-
-pub returns : goal.returns
-returns g c =
-    let net = c.args.net.now in
-    let all : c.loop-g.g ≡ gate_count (contents net) = omega arith in
-    record {
-      long = c.loop-g.invariant.long;
-      resolves = shows_all g.F.Family.logic (contents net) c.args.ports.now c.args.drives.now c.loop-g.levels c.loop-g.marks c.loop-g.g all c.loop-g.invariant;
-    }
