@@ -1,14 +1,10 @@
 // Holds the bench to the outside vectors.
-ghost use Rattle.std.specs.Prelude.{◌≤◌};
-ghost use denote.Memory.{mem};
-
 use crate::make::Make;
+use board_file::file::board_of;
 use calendar::calendar::Calendar;
 use calendar::entry::Entry;
 use heap::heap::Heap;
 use logic::named::Named;
-use netlist::look_over::look_over;
-use netlist::place::Netlist;
 use nine_values::nine::NineValues;
 use pull_ranges::pulls::PullRanges;
 use run::state::Run;
@@ -19,13 +15,13 @@ use vectors::vector;
 use vectors::vector::Vector;
 use wheel::wheel::Wheel;
 
-// Answers every line of a script behind `answers`.
+// Answers every line of a script.
 fn all_lines<F: Named, C: Calendar>(
     heap: Global,
     run: &mut Run<F, C>,
     script: &str,
-    answers: &mut Vec<u8>,
-) -> Result<(), AllocError> {
+) -> Result<Vec<u8>, AllocError> {
+    let mut answers = Vec::new(heap);
     let mut output = vec![in heap; 0u8; 40_000]?;
     let mut trace = vec![in heap; 0u8; 16_384]?;
     for (number, line) in (1..u32::MAX).zip(script.lines()) {
@@ -39,74 +35,45 @@ fn all_lines<F: Named, C: Calendar>(
         let text = output.as_slice().get(..count).unwrap_or(b"");
         answers.extend_from_slice(text)?;
     }
-    Ok(())
-}
-
-// Answers a script on a new run. The run is held by value, so its parts must be of a size that
-// memory has.
-fn serve<F: Named + Drop, C: Calendar + Drop>(
-    heap: Global,
-    netlist: Netlist,
-    calendar: C,
-    script: &str,
-) -> Result<Vec<u8>, AllocError>
-    requires calendar { (mem C.row).size ≤ 1048576 }
-    requires value { (mem F.Value.row).size ≤ 64 }
-{
-    let mut answers = Vec::new(heap);
-    let mut run: Run<F, C> = Run::open(netlist, calendar);
-    all_lines(heap, &mut run, script, &mut answers)?;
-    let _ = run.finish();
     Ok(answers)
 }
 
-fn serve_on<C: Calendar + Drop>(
-    heap: Global,
-    v: &Vector,
-    netlist: Netlist,
-    calendar: C,
-) -> Result<Vec<u8>, AllocError>
-    requires { (mem C.row).size ≤ 1048576 }
-{
-    match v.values {
-        Values::Nine => serve::<NineValues, C>(heap, netlist, calendar, v.script.as_str()),
-        Values::Pulls => serve::<PullRanges, C>(heap, netlist, calendar, v.script.as_str()),
-    }
-}
-
-// Kept as it is: opens runs as `play::play_case` does; one function for both takes what is done with the run as a trait with a method over any family and calendar, and no call of that proves ("cannot fit the signature of `work` to the trait's").
-
 // What the bench answers to a vector's script on one make of calendar.
+// Kept as it is: opens runs as `play::play` does; one function for both takes what is done with the run as a trait with a method over any family and calendar, and no call of that proves ("cannot fit the signature of `work` to the trait's").
 fn answers(heap: Global, make: Make, v: &Vector) -> Result<Vec<u8>, AllocError> {
-    let mut netlist = Netlist::new();
-    if look_over(v.board.as_slice(), &mut netlist).is_err() {
+    let Ok(board) = board_of(v.board.as_slice()) else {
         return Ok(Vec::new(heap));
-    }
-    match make {
-        Make::Heap => {
-            let blank = Entry {
-                tick: 0,
-                gate: 0,
-                code: 0,
-            };
-            let mut entries = vec![in heap; blank; 65_536]?;
-            serve_on(heap, v, netlist, Heap::new(entries.as_mut_slice()))
+    };
+    let script = v.script.as_str();
+    let mut entries = vec![in heap; Entry::BLANK; 65_536]?;
+    let mut slots = vec![in heap; 0; 65 * 1024]?;
+    let on_heap = Heap::new(entries.as_mut_slice());
+    let on_wheel = Wheel::new(slots.as_mut_slice());
+    match (make, v.values) {
+        (Make::Heap, Values::Nine) => {
+            let mut run: Run<NineValues, Heap> = Run::open(board, on_heap);
+            all_lines(heap, &mut run, script)
         }
-        Make::Wheel => {
-            let mut slots = vec![in heap; 0u16; 65 * 1024]?;
-            serve_on(heap, v, netlist, Wheel::new(slots.as_mut_slice()))
+        (Make::Heap, Values::Pulls) => {
+            let mut run: Run<PullRanges, Heap> = Run::open(board, on_heap);
+            all_lines(heap, &mut run, script)
+        }
+        (Make::Wheel, Values::Nine) => {
+            let mut run: Run<NineValues, Wheel> = Run::open(board, on_wheel);
+            all_lines(heap, &mut run, script)
+        }
+        (Make::Wheel, Values::Pulls) => {
+            let mut run: Run<PullRanges, Wheel> = Run::open(board, on_wheel);
+            all_lines(heap, &mut run, script)
         }
     }
 }
 
 // How many of the outside vectors the bench answers as it must, and how many there are.
 pub fn agreeing(heap: Global, make: Make) -> Result<(usize, usize), AllocError> {
-    let all = vector::all(heap)?;
-    let mut good: usize = 0;
-    for v in all.iter() {
-        if v.agrees(answers(heap, make, v)?.as_slice()) {
-            good = good.saturating_add(1);
-        }
-    }
-    Ok((good, all.len()))
+    let all = vector::all(heap)?
+        .iter()
+        .map(|v| answers(heap, make, v).map(|text| v.agrees(text.as_slice())))
+        .try_collect::<Vec<bool>>(heap)?;
+    Ok((all.iter().filter(|good| **good).count(), all.len()))
 }

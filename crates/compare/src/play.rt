@@ -1,11 +1,9 @@
 // Takes both sides through the steps of a case.
-ghost use Rattle.std.specs.Prelude.{◌≤◌};
-ghost use denote.Memory.{mem};
-
 use crate::case::{Case, Steps};
 use crate::make::Make;
 use crate::tally::{Difference, Tally};
 use crate::{lines, told};
+use board_file::file::board_of;
 use calendar::calendar::Calendar;
 use calendar::entry::Entry;
 use cases::random::Random;
@@ -13,7 +11,6 @@ use cases::step;
 use cases::step::Step;
 use heap::heap::Heap;
 use logic::named::Named;
-use netlist::look_over::look_over;
 use netlist::place::Netlist;
 use nine_values::nine::NineValues;
 use oracle::refusal::answered;
@@ -147,43 +144,45 @@ fn same_end(
     Ok(())
 }
 
-// Plays a case to its end. The run is held by value, so its parts must be of a size that memory has.
-fn play<F: Named + Drop, C: Calendar + Drop>(
+// Plays a case on the calendar and over the family that its seed chooses, and answers the ticks and the records of the run.
+fn play(
     heap: Global,
     tally: &mut Tally,
     random: &mut Random,
     case: &Case,
     sim: &mut Simulator,
     netlist: Netlist,
-    calendar: C,
-) -> Result<(), AllocError>
-    requires calendar { (mem C.row).size ≤ 1048576 }
-    requires value { (mem F.Value.row).size ≤ 64 }
-{
-    let mut run: Run<F, C> = Run::open(netlist, calendar);
-    all_steps(heap, tally, random, case, &mut run, sim)?;
-    let (ticks, records) = run.finish();
-    same_end(tally, case, sim, ticks, records)
-}
-
-fn play_on<C: Calendar + Drop>(
-    heap: Global,
-    tally: &mut Tally,
-    random: &mut Random,
-    case: &Case,
-    sim: &mut Simulator,
-    netlist: Netlist,
-    calendar: C,
-) -> Result<(), AllocError>
-    requires { (mem C.row).size ≤ 1048576 }
-{
-    match case.values() {
-        Values::Nine => play::<NineValues, C>(heap, tally, random, case, sim, netlist, calendar),
-        Values::Pulls => play::<PullRanges, C>(heap, tally, random, case, sim, netlist, calendar),
+    places: usize,
+) -> Result<(u32, u64), AllocError> {
+    let mut entries = vec![in heap; Entry::BLANK; places]?;
+    let mut slots = vec![in heap; 0; places]?;
+    let on_heap = Heap::new(entries.as_mut_slice());
+    let on_wheel = Wheel::new(slots.as_mut_slice());
+    match (case.make(), case.values()) {
+        (Make::Heap, Values::Nine) => {
+            let mut run: Run<NineValues, Heap> = Run::open(netlist, on_heap);
+            all_steps(heap, tally, random, case, &mut run, sim)?;
+            Ok(run.finish())
+        }
+        (Make::Heap, Values::Pulls) => {
+            let mut run: Run<PullRanges, Heap> = Run::open(netlist, on_heap);
+            all_steps(heap, tally, random, case, &mut run, sim)?;
+            Ok(run.finish())
+        }
+        (Make::Wheel, Values::Nine) => {
+            let mut run: Run<NineValues, Wheel> = Run::open(netlist, on_wheel);
+            all_steps(heap, tally, random, case, &mut run, sim)?;
+            Ok(run.finish())
+        }
+        (Make::Wheel, Values::Pulls) => {
+            let mut run: Run<PullRanges, Wheel> = Run::open(netlist, on_wheel);
+            all_steps(heap, tally, random, case, &mut run, sim)?;
+            Ok(run.finish())
+        }
     }
 }
 
-// Plays a case on the calendar that its seed chooses.
+// Plays a case to its end, where both sides take its file.
 pub fn play_case(
     heap: Global,
     tally: &mut Tally,
@@ -191,29 +190,23 @@ pub fn play_case(
     case: &Case,
 ) -> Result<(), AllocError> {
     let bytes = case.board.bytes.as_slice();
-    let mut netlist = Netlist::new();
-    let found = look_over(bytes, &mut netlist);
-    let (Ok(()), Ok(own)) = (found, answered(board::decode(heap, bytes))?) else {
+    let Ok(netlist) = board_of(bytes) else {
         return tally.differs(case.seed, Difference::File);
     };
     tally.cases = tally.cases.saturating_add(1);
+    let Ok(own) = answered(board::decode(heap, bytes))? else {
+        return tally.differs(case.seed, Difference::File);
+    };
     let places = case.places(random);
     let mut sim = Simulator::new(heap, case.family(), own, places >= case.enough())?;
-    match case.make() {
-        Make::Heap => {
-            let blank = Entry {
-                tick: 0,
-                gate: 0,
-                code: 0,
-            };
-            let mut entries = vec![in heap; blank; places as usize]?;
-            let calendar = Heap::new(entries.as_mut_slice());
-            play_on(heap, tally, random, case, &mut sim, netlist, calendar)
-        }
-        Make::Wheel => {
-            let mut slots = vec![in heap; 0u16; places as usize]?;
-            let calendar = Wheel::new(slots.as_mut_slice());
-            play_on(heap, tally, random, case, &mut sim, netlist, calendar)
-        }
-    }
+    let (ticks, records) = play(
+        heap,
+        tally,
+        random,
+        case,
+        &mut sim,
+        netlist,
+        places as usize,
+    )?;
+    same_end(tally, case, &sim, ticks, records)
 }

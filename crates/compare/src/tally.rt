@@ -11,13 +11,15 @@ pub enum Difference {
     End,
 }
 
+// Each is told as a step, the file as the first and the end as the last that there can be.
 impl fmt::Display for Difference {
     fn fmt<W: fmt::Write>(&self, f: &mut fmt::Formatter<W>) -> fmt::Result {
-        match self {
-            Difference::File => write!(f, "its file"),
-            Difference::Step(number) => write!(f, "step {number}"),
-            Difference::End => write!(f, "its end"),
-        }
+        let number = match self {
+            Difference::File => 0,
+            Difference::Step(number) => *number,
+            Difference::End => u32::MAX,
+        };
+        write!(f, "step {number}")
     }
 }
 

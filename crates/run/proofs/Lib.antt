@@ -10,5 +10,4 @@ pub mod Idle
 pub mod Handlings
 pub mod Comparing
 pub mod Timing
-pub mod Sizes
 pub mod Leans

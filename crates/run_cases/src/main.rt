@@ -8,26 +8,32 @@ mod serve;
 mod steps;
 
 use crate::boards::{BUS, INVERTER, STILL};
-use crate::serve::{serve, serve_two};
+use crate::say::say_end;
+use crate::serve::{board, serve, serve_two};
 use crate::steps::{LAST, Level, PAIRS, PULSE, REFUSALS, Step};
 use calendar::entry::Entry;
 use heap::heap::Heap;
 use nine_values::nine::NineValues;
 use pull_ranges::pulls::PullRanges;
+use run::state::Run;
 use std::io;
 use wheel::wheel::Wheel;
 
 fn buses(rt: &HostRuntime) -> io::Result<()> {
     let mut entries = [Entry::BLANK; 70];
     let mut slots = [0; 260];
-    let heap = Heap::new(&mut entries);
-    serve::<NineValues, Heap>(rt, "heap 70", BUS, heap, PULSE)?;
-    let wheel = Wheel::new(&mut slots);
-    serve::<NineValues, Wheel>(rt, "wheel 260", BUS, wheel, PULSE)?;
-    let heap = Heap::new(&mut entries);
-    serve::<PullRanges, Heap>(rt, "heap 70", BUS, heap, PULSE)?;
-    let wheel = Wheel::new(&mut slots);
-    serve::<PullRanges, Wheel>(rt, "wheel 260", BUS, wheel, PULSE)
+    let mut run: Run<NineValues, Heap> = Run::open(board(BUS), Heap::new(&mut entries));
+    serve(rt, "heap 70", &mut run, PULSE)?;
+    say_end(rt, run.finish())?;
+    let mut run: Run<NineValues, Wheel> = Run::open(board(BUS), Wheel::new(&mut slots));
+    serve(rt, "wheel 260", &mut run, PULSE)?;
+    say_end(rt, run.finish())?;
+    let mut run: Run<PullRanges, Heap> = Run::open(board(BUS), Heap::new(&mut entries));
+    serve(rt, "heap 70", &mut run, PULSE)?;
+    say_end(rt, run.finish())?;
+    let mut run: Run<PullRanges, Wheel> = Run::open(board(BUS), Wheel::new(&mut slots));
+    serve(rt, "wheel 260", &mut run, PULSE)?;
+    say_end(rt, run.finish())
 }
 
 fn refusals(rt: &HostRuntime) -> io::Result<()> {
@@ -35,14 +41,18 @@ fn refusals(rt: &HostRuntime) -> io::Result<()> {
     let mut slots = [0; 65];
     let mut too_few = [Entry::BLANK; 1];
     let mut too_short = [0; 64];
-    let heap = Heap::new(&mut entries);
-    serve::<NineValues, Heap>(rt, "heap 2", INVERTER, heap, REFUSALS)?;
-    let wheel = Wheel::new(&mut slots);
-    serve::<PullRanges, Wheel>(rt, "wheel 65", INVERTER, wheel, REFUSALS)?;
-    let heap = Heap::new(&mut too_few);
-    serve::<NineValues, Heap>(rt, "heap 1", INVERTER, heap, REFUSALS)?;
-    let wheel = Wheel::new(&mut too_short);
-    serve::<NineValues, Wheel>(rt, "wheel 64", INVERTER, wheel, REFUSALS)
+    let mut run: Run<NineValues, Heap> = Run::open(board(INVERTER), Heap::new(&mut entries));
+    serve(rt, "heap 2", &mut run, REFUSALS)?;
+    say_end(rt, run.finish())?;
+    let mut run: Run<PullRanges, Wheel> = Run::open(board(INVERTER), Wheel::new(&mut slots));
+    serve(rt, "wheel 65", &mut run, REFUSALS)?;
+    say_end(rt, run.finish())?;
+    let mut run: Run<NineValues, Heap> = Run::open(board(INVERTER), Heap::new(&mut too_few));
+    serve(rt, "heap 1", &mut run, REFUSALS)?;
+    say_end(rt, run.finish())?;
+    let mut run: Run<NineValues, Wheel> = Run::open(board(INVERTER), Wheel::new(&mut too_short));
+    serve(rt, "wheel 64", &mut run, REFUSALS)?;
+    say_end(rt, run.finish())
 }
 
 // An advance of the inverter by 4 ticks, with a buffer of every length.
@@ -50,8 +60,9 @@ fn stops(rt: &HostRuntime) -> io::Result<()> {
     let mut entries = [Entry::BLANK; 2];
     for length in 0..42 {
         let steps = [Step::Drive(0, Level::High), Step::Advance(4, length)];
-        let heap = Heap::new(&mut entries);
-        serve::<NineValues, Heap>(rt, "heap 2", INVERTER, heap, &steps)?;
+        let mut run: Run<NineValues, Heap> = Run::open(board(INVERTER), Heap::new(&mut entries));
+        serve(rt, "heap 2", &mut run, &steps)?;
+        say_end(rt, run.finish())?;
     }
     Ok(())
 }
@@ -59,18 +70,20 @@ fn stops(rt: &HostRuntime) -> io::Result<()> {
 fn ends(rt: &HostRuntime) -> io::Result<()> {
     let mut entries = [Entry::BLANK; 1];
     let mut slots = [0; 65];
-    let heap = Heap::new(&mut entries);
-    serve::<NineValues, Heap>(rt, "heap 1", STILL, heap, LAST)?;
-    let wheel = Wheel::new(&mut slots);
-    serve::<PullRanges, Wheel>(rt, "wheel 65", STILL, wheel, LAST)
+    let mut run: Run<NineValues, Heap> = Run::open(board(STILL), Heap::new(&mut entries));
+    serve(rt, "heap 1", &mut run, LAST)?;
+    say_end(rt, run.finish())?;
+    let mut run: Run<PullRanges, Wheel> = Run::open(board(STILL), Wheel::new(&mut slots));
+    serve(rt, "wheel 65", &mut run, LAST)?;
+    say_end(rt, run.finish())
 }
 
 fn sides(rt: &HostRuntime) -> io::Result<()> {
     let mut entries = [Entry::BLANK; 2];
     let mut slots = [0; 65];
-    let heap = Heap::new(&mut entries);
-    let wheel = Wheel::new(&mut slots);
-    serve_two::<NineValues, Heap, Wheel>(rt, INVERTER, heap, wheel, PAIRS)
+    let mut first: Run<NineValues, Heap> = Run::open(board(INVERTER), Heap::new(&mut entries));
+    let mut second: Run<NineValues, Wheel> = Run::open(board(INVERTER), Wheel::new(&mut slots));
+    serve_two(rt, &mut first, &mut second, PAIRS)
 }
 
 fn main(rt: HostRuntime) -> io::Result<()> {

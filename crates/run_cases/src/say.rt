@@ -50,3 +50,8 @@ fn say_fault(rt: &HostRuntime, fault: RunFault) -> io::Result<()> {
     let place = fault.place();
     println!(rt; "no {number} {letter} {place}")
 }
+
+// The ticks and the records of a whole run.
+pub fn say_end(rt: &HostRuntime, (ticks, records): (u32, u64)) -> io::Result<()> {
+    println!(rt; "finish {ticks} {records}")
+}

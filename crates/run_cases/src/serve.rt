@@ -1,12 +1,9 @@
-// Generic code that owns a run: it serves every family and every calendar.
-ghost use Rattle.std.specs.Prelude.{◌≤◌};
-ghost use denote.Memory.{mem};
-
+// Generic code that works runs: it serves every family and every calendar.
 use crate::say::{Answer, UNWRITTEN, say};
 use crate::steps::{Level, Step};
+use board_file::file::board_of;
 use calendar::calendar::Calendar;
 use logic::family::Family;
-use netlist::look_over::look_over;
 use netlist::place::Netlist;
 use run::state::Run;
 use run::state::compare::contradiction;
@@ -44,51 +41,35 @@ fn act<F: Family, C: Calendar>(
 }
 
 // A board that the cases hold; a file that is refused leaves the place empty.
-fn board(file: &[u8]) -> Netlist {
-    let mut place = Netlist::new();
-    let _ = look_over(file, &mut place);
-    place
+pub fn board(file: &[u8]) -> Netlist {
+    board_of(file).unwrap_or(Netlist::new())
 }
 
-// Kept as it is: a run on a wheel is not covered where it is held at its concrete type, so the owner is generic and requires sizes.
-pub fn serve<F: Family + Drop, C: Calendar + Drop>(
+pub fn serve<F: Family, C: Calendar>(
     rt: &HostRuntime,
     title: &str,
-    file: &[u8],
-    calendar: C,
+    run: &mut Run<F, C>,
     steps: &[Step],
-) -> io::Result<()>
-    requires calendar { (mem C.row).size ≤ 1048576 }
-    requires value { (mem F.Value.row).size ≤ 64 }
-{
+) -> io::Result<()> {
     println!(rt; "-- {title}")?;
-    let mut run: Run<F, C> = Run::open(board(file), calendar);
     for step in steps {
-        act(rt, &mut run, *step)?;
+        act(rt, run, *step)?;
     }
-    let (ticks, records) = run.finish();
-    println!(rt; "finish {ticks} {records}")
+    Ok(())
 }
 
 // Two runs of one board side by side; after each pair of calls, whether the second contradicts the first.
-pub fn serve_two<F: Family + Drop, C: Calendar + Drop, D: Calendar + Drop>(
+pub fn serve_two<F: Family, C: Calendar, D: Calendar>(
     rt: &HostRuntime,
-    file: &[u8],
-    one: C,
-    other: D,
+    first: &mut Run<F, C>,
+    second: &mut Run<F, D>,
     pairs: &[(Step, Step)],
-) -> io::Result<()>
-    requires calendar { (mem C.row).size ≤ 1048576 }
-    requires other { (mem D.row).size ≤ 1048576 }
-    requires value { (mem F.Value.row).size ≤ 64 }
-{
+) -> io::Result<()> {
     println!(rt; "-- two runs")?;
-    let mut first: Run<F, C> = Run::open(board(file), one);
-    let mut second: Run<F, D> = Run::open(board(file), other);
-    for pair in pairs {
-        act(rt, &mut first, pair.0)?;
-        act(rt, &mut second, pair.1)?;
-        match contradiction(&first, &second) {
+    for (one, other) in pairs {
+        act(rt, first, *one)?;
+        act(rt, second, *other)?;
+        match contradiction(first, second) {
             Some(net) => println!(rt; "contradicted at net {net}")?,
             None => println!(rt; "not contradicted")?,
         }

@@ -1,15 +1,12 @@
-ghost use Rattle.std.specs.Prelude.{◌≤◌};
-ghost use denote.Memory.{mem};
-
 use crate::board::{EVERY_NET, WATCHED};
 use crate::choice::{Choice, Queue, Values};
 use anyhow::anyhow;
+use board_file::file::board_of;
 use calendar::calendar::Calendar;
 use calendar::entry::Entry;
 use heap::heap::Heap;
 use logic::family::Family;
 use netlist::gate::GateKind;
-use netlist::look_over::look_over;
 use netlist::place::Netlist;
 use nine_values::nine::NineValues;
 use pull_ranges::pulls::PullRanges;
@@ -74,45 +71,51 @@ fn wake_all<F: Family, C: Calendar>(run: &mut Run<F, C>, high: &[bool]) {
     }
 }
 
-// Opens a run of the file on the calendar, and advances it.
-// Kept as it is: a run on a wheel is not covered where it is held at its concrete type, so the owner is generic and requires sizes.
-fn run_on<F: Family + Drop, C: Calendar + Drop>(
+// Wakes every gate, advances, and says how many microseconds the advance took.
+fn timed<F: Family, C: Calendar>(
     rt: &HostRuntime,
-    file: &[u8],
-    calendar: C,
+    run: &mut Run<F, C>,
+    high: &[bool],
     ticks: u32,
-) -> anyhow::Result<Lap>
-    requires calendar { (mem C.row).size ≤ 1048576 }
-    requires value { (mem F.Value.row).size ≤ 64 }
-{
-    let mut net = Netlist::new();
-    look_over(file, &mut net).map_err(|_| anyhow!("the board is refused"))?;
-    let high = starts(rt.alloc(), &net)?;
-    let mut run: Run<F, C> = Run::open(net, calendar);
-    wake_all(&mut run, high.as_slice());
+) -> anyhow::Result<u128> {
+    wake_all(run, high);
     let mut trace = vec![in rt.alloc(); 0; TRACE]?;
     let start = Instant::now(rt)?;
-    advance_to(rt, &mut run, ticks, trace.as_mut_slice())?;
-    let micros = start.elapsed(rt)?.as_micros();
-    let (ticks, records) = run.finish();
+    advance_to(rt, run, ticks, trace.as_mut_slice())?;
+    Ok(start.elapsed(rt)?.as_micros())
+}
+
+fn run_choice(rt: &HostRuntime, choice: Choice, file: &[u8], ticks: u32) -> anyhow::Result<Lap> {
+    let net = board_of(file).map_err(|_| anyhow!("the board is refused"))?;
+    let high = starts(rt.alloc(), &net)?;
+    let high = high.as_slice();
+    let mut entries = vec![in rt.alloc(); Entry::BLANK; ENTRIES]?;
+    let mut slots = vec![in rt.alloc(); 0; SLOTS]?;
+    let heap = Heap::new(entries.as_mut_slice());
+    let wheel = Wheel::new(slots.as_mut_slice());
+    let (micros, (ticks, records)) = match (choice.queue, choice.values) {
+        (Queue::Heap, Values::Nine) => {
+            let mut run: Run<NineValues, Heap> = Run::open(net, heap);
+            (timed(rt, &mut run, high, ticks)?, run.finish())
+        }
+        (Queue::Heap, Values::Pull) => {
+            let mut run: Run<PullRanges, Heap> = Run::open(net, heap);
+            (timed(rt, &mut run, high, ticks)?, run.finish())
+        }
+        (Queue::Wheel, Values::Nine) => {
+            let mut run: Run<NineValues, Wheel> = Run::open(net, wheel);
+            (timed(rt, &mut run, high, ticks)?, run.finish())
+        }
+        (Queue::Wheel, Values::Pull) => {
+            let mut run: Run<PullRanges, Wheel> = Run::open(net, wheel);
+            (timed(rt, &mut run, high, ticks)?, run.finish())
+        }
+    };
     Ok(Lap {
         ticks,
         records,
         micros,
     })
-}
-
-fn run_choice(rt: &HostRuntime, choice: Choice, file: &[u8], ticks: u32) -> anyhow::Result<Lap> {
-    let mut entries = vec![in rt.alloc(); Entry::BLANK; ENTRIES]?;
-    let mut slots = vec![in rt.alloc(); 0; SLOTS]?;
-    let heap = Heap::new(entries.as_mut_slice());
-    let wheel = Wheel::new(slots.as_mut_slice());
-    match (choice.queue, choice.values) {
-        (Queue::Heap, Values::Nine) => run_on::<NineValues, Heap>(rt, file, heap, ticks),
-        (Queue::Heap, Values::Pull) => run_on::<PullRanges, Heap>(rt, file, heap, ticks),
-        (Queue::Wheel, Values::Nine) => run_on::<NineValues, Wheel>(rt, file, wheel, ticks),
-        (Queue::Wheel, Values::Pull) => run_on::<PullRanges, Wheel>(rt, file, wheel, ticks),
-    }
 }
 
 // The ticks completed and the changes of all nets.
