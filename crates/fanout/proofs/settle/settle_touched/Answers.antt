@@ -1,10 +1,7 @@
 use Rattle.netlist.specs.Looked.{contents}
-use Rattle.fanout.proofs.Settling.{settles_none, settles_more}
+use Rattle.fanout.proofs.Settling.{settles_more}
 use Rattle.fanout.proofs.Sweeps.{low_nearer}
 use Rattle.fanout.proofs.settle.settle_touched.Goals as goal
-
-pub loop-n-init : goal.loop-n-init
-loop-n-init g c = settles_none g.F.Family.logic (contents c.args.wiring.now.net) c.args.ports.now c.args.drives.now c.args.levels.now c.args.nets.now.words c.args.wiring.now.net.head.gates c.args.gates.now.words
 
 pub loop-n-preserved : goal.loop-n-preserved
 loop-n-preserved g c =
@@ -15,14 +12,3 @@ loop-n-preserved g c =
 
 pub loop-n-smaller : goal.loop-n-smaller
 loop-n-smaller g c = low_nearer c.loop-n.nets.words c.in-Some.n c.in-Some.ensures c.set.new.self.words c.set.ensures
-
-pub returns : goal.returns
-returns g c =
-    let l = c.loop-n in
-    record {
-      long = l.invariant.long;
-      resolves = λ n lt on. l.invariant.resolves n lt on (c.in_default.ensures n lt);
-      others = l.invariant.others;
-      empties = c.in_default.ensures;
-      readers = l.invariant.readers;
-    }

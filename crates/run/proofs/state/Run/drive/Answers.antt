@@ -7,41 +7,6 @@ use Rattle.run.specs.Calls.{Driven}
 use Rattle.run.proofs.Callings.{drive_refused, unfit, unready, is_ready, unvalued, is_valued, never, accepts, fit_on, ports_count, drive_fits}
 use Rattle.run.proofs.state.Run.drive.Goals as goal
 
-pub returns-in_err-ready : goal.returns-in_err-ready
-returns-in_err-ready g c =
-    let x = c.args.self.now in
-    let u = unready x.fit x.ticks c.in_err-ready.field-0.0 (sym c.ready.ensures ∙ c.in_err-ready.was) in
-    let p = err_from_is_err_and c.from_residual.result c.from_residual.ensures.1 in
-    subst (Driven g.F.Family g.C.Calendar x c.args.port c.args.code x) (sym (p.1 ∙ ap Err (p.2 ∙ u.1)))
-    (drive_refused g.F.Family g.C.Calendar x (UnfitCalendar x.ticks) refl c.args.port c.args.code
-    (λ C s h. unfit g.F.Family g.C.Calendar C s x h (drive c.args.port c.args.code) u.0))
-
-pub returns-then-port-self : goal.returns-then-port-self
-returns-then-port-self g c =
-    let x = c.args.self.now in
-    let L = g.F.Family.logic in
-    let p = c.args.port in
-    let on = is_ready x.fit x.ticks tt (sym c.ready.ensures ∙ c.in_ok-ready.was) in
-    drive_refused g.F.Family g.C.Calendar x (NoSuchInput x.ticks) refl p c.args.code (λ C s h.
-    let e₁ : not s.fit ≡ false = fit_on g.F.Family g.C.Calendar C s x h on in
-    let e₂ : leb C.ports p ≡ true = le-leb C.ports p (omega (arith, ports_count g.F.Family g.C.Calendar C s x h, c.if-port-self.true)) in
-    λ i. first_of ((e₁ i, 16) ∷ (e₂ i, 17) ∷ (not (is_some (L.of_code c.args.code)), 18) ∷ []))
-
-pub returns-in_err-v : goal.returns-in_err-v
-returns-in_err-v g c =
-    let x = c.args.self.now in
-    let L = g.F.Family.logic in
-    let k = c.args.port in
-    let on = is_ready x.fit x.ticks tt (sym c.ready.ensures ∙ c.in_ok-ready.was) in
-    let u = unvalued (L.of_code c.args.code) x.ticks c.in_err-v.field-0.0 (sym c.value.ensures ∙ c.in_err-v.was) in
-    let p = err_from_is_err_and c.from_residual-in_err-v.result c.from_residual-in_err-v.ensures.1 in
-    subst (Driven g.F.Family g.C.Calendar x k c.args.code x) (sym (p.1 ∙ ap Err (p.2 ∙ u.1)))
-    (drive_refused g.F.Family g.C.Calendar x (NoSuchCode x.ticks) refl k c.args.code (λ C s h.
-    let e₁ : not s.fit ≡ false = fit_on g.F.Family g.C.Calendar C s x h on in
-    let e₂ : leb C.ports k ≡ false = lt-leb C.ports k (omega (arith, ports_count g.F.Family g.C.Calendar C s x h, c.if-port-self.false)) in
-    let e₃ : not (is_some (L.of_code c.args.code)) ≡ true = ap (λ o. not (is_some o)) u.0 in
-    λ i. first_of ((e₁ i, 16) ∷ (e₂ i, 17) ∷ (e₃ i, 18) ∷ [])))
-
 pub returns : goal.returns
 returns g c =
     let x = c.args.self.now in
