@@ -2,10 +2,8 @@
 
 #![tactic(auto)]
 
-use board_file::file::board_bytes;
+use board_file::file::{board_bytes, board_of};
 use board_file::lines::{inventory_line, refusal_line};
-use netlist::look_over::look_over;
-use netlist::place::Netlist;
 use std::io;
 
 const NAMES: [&str; 6] = [
@@ -20,9 +18,8 @@ const NAMES: [&str; 6] = [
 fn answer(rt: &HostRuntime, name: &str) -> io::Result<()> {
     let heap = rt.alloc();
     let bytes = board_bytes(rt, heap, name)?;
-    let mut board = Netlist::new();
-    let line = match look_over(bytes.as_slice(), &mut board) {
-        Ok(_) => inventory_line(heap, board.inventory())?,
+    let line = match board_of(bytes.as_slice()) {
+        Ok(board) => inventory_line(heap, board.inventory())?,
         Err(fault) => refusal_line(heap, fault)?,
     };
     println!(rt; "{name}: {line}")
