@@ -1,5 +1,5 @@
 // A code that waits for a tick and a gate; in order of tick, then gate, then code.
-#[derive(Clone, Copy, Debug, Default, PartialEq, Eq, PartialOrd, Ord)]
+#[derive(Clone, Copy, Debug, PartialEq, Eq, PartialOrd, Ord)]
 pub struct Entry {
     pub tick: u32,
     pub gate: u16,
@@ -15,14 +15,14 @@ impl Entry {
     };
 }
 
-// Why a calendar refuses, in the order in which it looks.
+// Why a calendar refuses, by the number of the refusal, in the order in which it looks.
 #[derive(Clone, Copy, Debug, PartialEq, Eq)]
 pub enum Reason {
-    NoGate,
-    BadTick,
-    Twice,
-    Full,
-    BadTurn,
+    NoGate = 11,
+    BadTick = 12,
+    Twice = 13,
+    Full = 14,
+    BadTurn = 15,
 }
 
 // The place is now, as it stood at the refused call.

@@ -20,13 +20,7 @@ impl CalendarFault {
     pub fn number(self) -> u8
         ensures { result ≡ number self.reason }
     {
-        match self.reason {
-            Reason::NoGate => 11,
-            Reason::BadTick => 12,
-            Reason::Twice => 13,
-            Reason::Full => 14,
-            Reason::BadTurn => 15,
-        }
+        self.reason as u8
     }
 
     pub fn letter(self) -> u8

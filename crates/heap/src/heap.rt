@@ -32,7 +32,7 @@ impl<'a> Heap<'a> {
         Heap {
             pile: Pile::new(&mut buffer[..n]),
             marks: Marks {
-                rows: [[false; 1024]; 65],
+                rows: [[false; GATES as usize]; 65],
             },
             today: 0,
         }

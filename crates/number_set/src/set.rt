@@ -3,12 +3,12 @@ use std::marker::Model;
 // A set of numbers below 1,024: a bit for each, and a bit for each word that is not 0.
 #[derive(Clone, Copy)]
 pub struct NumberSet {
-    pub(crate) words: [u64; 16],
-    pub(crate) used: u64,
+    pub words: [u64; 16],
+    pub used: u64,
 }
 
-// Callers see the words alone. What holds of the fields is an invariant of the model and no ghost field, so that a calendar that
-// holds sets beside a lent buffer can be held by value.
+// Callers see the words and the used bits. What holds of them is an invariant of the model and no ghost field, so that a calendar
+// that holds sets beside a lent buffer can be held by value; each call says that it holds.
 impl Model for NumberSet {
     ghost use Rattle.std.specs.Prelude.{◌≡◌, length};
     ghost use Rattle.number_set.specs.Members.{Numbers, Summed};

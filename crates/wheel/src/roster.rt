@@ -6,26 +6,34 @@ use number_set::set::NumberSet;
 // A row for each tick that can wait.
 pub const ROWS: usize = 65;
 
-// Adds a gate to the row of a tick or removes it, as `on` says.
-pub(crate) fn set_gate(roster: &mut [NumberSet; ROWS], tick: u32, gate: u16, on: bool)
+// Adds a gate to the row of a tick.
+pub(crate) fn add_gate(roster: &mut [NumberSet; ROWS], tick: u32, gate: u16)
     ensures sets { length roster.new ≡ 65 }
-    ensures there { (r g : ℕ) → r < 65 → g < 1024 → present roster.new r g ≡ (if nat_eq r (tick % 65) && g == gate then on else present roster.old r g) }
+    ensures there { (r g : ℕ) → r < 65 → g < 1024 → present roster.new r g ≡ (if nat_eq r (tick % 65) && g == gate then true else present roster.old r g) }
 {
-    roster[(tick % 65) as usize].set(gate, on);
+    roster[tick as usize % ROWS].insert(gate);
+}
+
+// Removes a gate from the row of a tick.
+pub(crate) fn remove_gate(roster: &mut [NumberSet; ROWS], tick: u32, gate: u16)
+    ensures sets { length roster.new ≡ 65 }
+    ensures there { (r g : ℕ) → r < 65 → g < 1024 → present roster.new r g ≡ (if nat_eq r (tick % 65) && g == gate then false else present roster.old r g) }
+{
+    roster[tick as usize % ROWS].remove(gate);
 }
 
 // Whether a gate stands in the row of a tick.
 pub(crate) fn stands(roster: &[NumberSet; ROWS], tick: u32, gate: u16) -> bool
     ensures { result ≡ present roster.now (tick % 65) gate }
 {
-    roster[(tick % 65) as usize].contains(gate)
+    roster[tick as usize % ROWS].contains(gate)
 }
 
 // The least gate in the row of a tick.
 pub(crate) fn first_gate(roster: &[NumberSet; ROWS], tick: u32) -> Option<u16>
     ensures { Least roster.now (tick % 65) result }
 {
-    roster[(tick % 65) as usize].first()
+    roster[tick as usize % ROWS].first()
 }
 
 // Whether any gate stands in the row of a tick.

@@ -3,7 +3,7 @@ ghost use Rattle.calendar.specs.Agenda.{put_answer, first, first_tick, sound, ne
 ghost use Rattle.calendar.specs.Table.{slot};
 ghost use Rattle.wheel.specs.Rings.{wheel_agenda, Inside};
 
-use crate::roster::{ROWS, first_gate, first_wait, set_gate, stands};
+use crate::roster::{ROWS, add_gate, first_gate, first_wait, remove_gate, stands};
 use calendar::calendar::Calendar;
 use calendar::checks::{check_slot, check_turn};
 use calendar::entry::{CalendarFault, Entry, Reason};
@@ -11,6 +11,7 @@ use number_set::set::NumberSet;
 
 // A calendar in a buffer of codes that the caller lends: a row for each tick that can wait, in it a
 // place for each gate. The roster says which of them wait.
+// Kept as it is: the codes stand in a buffer that the caller lends, since nothing is allocated while a run advances.
 #[derive(Drop)]
 pub struct Wheel<'a> {
     codes: &'a mut [u16],
@@ -34,7 +35,7 @@ impl<'a> Wheel<'a> {
     pub fn new(buffer: &'a mut [u16]) -> Wheel<'a>
         ensures { wheel_agenda result.today result.gates result.roster result.codes.now ≡ new_agenda (min (length buffer.old / 65) 1024) (64 * min (length buffer.old / 65) 1024) }
     {
-        let gates = (buffer.len() / 65).min(1024) as u16;
+        let gates = (buffer.len() / ROWS).min(1024) as u16;
         Wheel {
             codes: buffer,
             gates,
@@ -51,7 +52,7 @@ impl<'a> Wheel<'a> {
         ensures value { result ≡ slot self.now.gates tick gate }
         ensures inside { result < length self.now.codes.now }
     {
-        (tick % 65) as usize * self.gates as usize + gate as usize
+        (tick as usize % ROWS) * self.gates as usize + gate as usize
     }
 
     // What a put answers.
@@ -90,7 +91,7 @@ impl<'a> Calendar for Wheel<'a> {
         self.check_put(Entry { tick, gate, code })?;
         let at = self.place(tick, gate);
         self.codes[at] = code;
-        set_gate(&mut self.roster, tick, gate, true);
+        add_gate(&mut self.roster, tick, gate);
         self.soon = Some(self.soon.map_or(tick, |t| t.min(tick)));
         self.count += 1;
         Ok(())
@@ -102,8 +103,8 @@ impl<'a> Calendar for Wheel<'a> {
 
     fn take(&mut self) -> Option<Entry> {
         let e = self.head()?;
-        set_gate(&mut self.roster, e.tick, e.gate, false);
-        self.soon = first_wait(&self.roster, e.tick, self.today + 65);
+        remove_gate(&mut self.roster, e.tick, e.gate);
+        self.soon = first_wait(&self.roster, e.tick, self.today + ROWS as u32);
         self.count -= 1;
         Some(e)
     }

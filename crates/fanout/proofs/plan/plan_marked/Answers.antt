@@ -23,13 +23,13 @@ loop-g-preserved g c =
     let p = c.plan_gate.ensures in
     ⊎_elim
     (λ lt. done_more L C c.args.levels.now c.args.planned.now c.args.moment.tick a c.args.gates.now.words (omega (arith, e, net.table)) l.gates.words l.planned (g.C.Calendar.meaning l.calendar) l.invariant
-    c.in-Some.g c.in-Some.ensures c.set.new.self.words c.set.ensures (omega (arith, e, lt)) p.long c.plan_gate.new.planned (g.C.Calendar.meaning c.plan_gate.new.calendar) (p.planned lt) (p.calendar lt))
+    c.in-Some.g c.in-Some.ensures.least c.set.new.self.words c.set.ensures.there (omega (arith, e, lt)) p.long c.plan_gate.new.planned (g.C.Calendar.meaning c.plan_gate.new.calendar) (p.planned lt) (p.calendar lt))
     (λ ge. done_past L C c.args.levels.now c.args.planned.now c.args.moment.tick a c.args.gates.now.words (omega (arith, e, net.table)) l.gates.words l.planned (g.C.Calendar.meaning l.calendar) l.invariant
-    c.in-Some.g c.in-Some.ensures c.set.new.self.words c.set.ensures (omega (arith, e, ge)) c.plan_gate.new.planned (g.C.Calendar.meaning c.plan_gate.new.calendar) (p.past ge) (p.still ge))
+    c.in-Some.g c.in-Some.ensures.least c.set.new.self.words c.set.ensures.there (omega (arith, e, ge)) c.plan_gate.new.planned (g.C.Calendar.meaning c.plan_gate.new.calendar) (p.past ge) (p.still ge))
     (cases_lt c.in-Some.g net.head.gates)
 
 pub loop-g-smaller : goal.loop-g-smaller
-loop-g-smaller g c = low_nearer c.loop-g.gates.words c.in-Some.g c.in-Some.ensures c.set.new.self.words c.set.ensures
+loop-g-smaller g c = low_nearer c.loop-g.gates.words c.in-Some.g c.in-Some.ensures.least c.set.new.self.words c.set.ensures.there
 
 pub returns : goal.returns
 returns g c =

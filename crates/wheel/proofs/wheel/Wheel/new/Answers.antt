@@ -7,12 +7,12 @@ use Rattle.wheel.proofs.wheel.Wheel.new.Goals as goal
 pub invariant_of-result : goal.invariant_of-result
 invariant_of-result c =
     let G = c.min-gates.result in
-    let none = new_rows c.new.result c.new.ensures G (omega arith) c.args.buffer.now in
+    let none = new_rows c.new.result c.new.ensures.empty G (omega arith) c.args.buffer.now in
     record {
       wide = omega arith;
       few = omega arith;
       sets = search rules;
-      inside = new_inside c.new.result c.new.ensures G (omega arith);
+      inside = new_inside c.new.result c.new.ensures.empty G (omega arith);
       fits = omega arith;
       counted = sym (ap length none);
       sound = ap (λ z. sound (with_waiting (new_agenda G (64 * G)) z)) none ∙ le-leb 0 (64 * G) (omega arith);

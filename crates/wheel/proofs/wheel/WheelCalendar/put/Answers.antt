@@ -28,14 +28,14 @@ invariant_of-self c =
     let e = entry t c.args.gate c.args.code in
     let ok = sym c.check_put.ensures ∙ c.in_ok-check_put.was in
     let allowed = put_allowed a e c.in_ok-check_put.field-0 ok in
-    let there = c.set_gate.ensures.there in
-    let is = put_leaves w.today w.gates w.roster w.codes.now w.few c.set_gate.new.roster e c.place-at.result c.in_ok-check_put.field-0 ok c.place-at.ensures.value w.wide there in
+    let there = c.add_gate.ensures.there in
+    let is = put_leaves w.today w.gates w.roster w.codes.now w.few c.add_gate.new.roster e c.place-at.result c.in_ok-check_put.field-0 ok c.place-at.ensures.value w.wide there in
     let soon : c.map_or.result ≡ option_map_or (λ x. min x t) w.soon t = search rules in
     record {
       wide = omega (arith, w.wide, length-set w.codes.now c.place-at.result c.args.code);
       few = w.few;
-      sets = c.set_gate.ensures.sets;
-      inside = still_inside w.gates w.roster c.set_gate.new.roster w.codes.now w.few t c.args.gate allowed.0 true there w.inside;
+      sets = c.add_gate.ensures.sets;
+      inside = still_inside w.gates w.roster c.add_gate.new.roster w.codes.now w.few t c.args.gate allowed.0 true there w.inside;
       fits = w.fits;
       counted = omega (arith, w.counted, ap length is, length_placed before e a.waiting);
       sound = ap (λ z. sound (with_waiting a z)) is ∙ sound_placed a w.sound e allowed.0 allowed.1 allowed.2 allowed.3 allowed.4;
@@ -48,5 +48,5 @@ returns-clause-after c =
     let a = wheel_agenda w.today w.gates w.roster w.codes.now in
     let e = entry c.args.tick c.args.gate c.args.code in
     let ok = sym c.check_put.ensures ∙ c.in_ok-check_put.was in
-    let is = put_leaves w.today w.gates w.roster w.codes.now w.few c.set_gate.new.roster e c.place-at.result c.in_ok-check_put.field-0 ok c.place-at.ensures.value w.wide c.set_gate.ensures.there in
+    let is = put_leaves w.today w.gates w.roster w.codes.now w.few c.add_gate.new.roster e c.place-at.result c.in_ok-check_put.field-0 ok c.place-at.ensures.value w.wide c.add_gate.ensures.there in
     ap (with_waiting a) is ∙ sym (put_allowed a e c.in_ok-check_put.field-0 ok).5

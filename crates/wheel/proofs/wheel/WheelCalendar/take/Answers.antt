@@ -15,14 +15,14 @@ invariant_of-self c =
     let e = c.in_ok-e.e in
     let list = list_of_first a.waiting e (sym c.head.ensures ∙ c.in_ok-e.was) in
     let place = first_in_time (table G w.roster w.codes.now) G w.today due e list.0 list.1 in
-    let last = c.set_gate.new.roster in
-    let there = c.set_gate.ensures.there in
+    let last = c.remove_gate.new.roster in
+    let there = c.remove_gate.ensures.there in
     let left = take_leaves w.today G w.roster w.codes.now w.few last e list.0 due list.1 there in
     let inside = still_inside G w.roster last w.codes.now w.few e.tick e.gate place.2 false there w.inside in
     record {
       wide = w.wide;
       few = w.few;
-      sets = c.set_gate.ensures.sets;
+      sets = c.remove_gate.ensures.sets;
       inside = inside;
       fits = w.fits;
       counted = omega (arith, w.counted, ap length left.0, ap length list.1);
@@ -35,5 +35,5 @@ returns-clause-after c =
     let w = c.args.self.now in
     let a = wheel_agenda w.today w.gates w.roster w.codes.now in
     let list = list_of_first a.waiting c.in_ok-e.e (sym c.head.ensures ∙ c.in_ok-e.was) in
-    let left = take_leaves w.today w.gates w.roster w.codes.now w.few c.set_gate.new.roster c.in_ok-e.e list.0 (sound_due a w.sound) list.1 c.set_gate.ensures.there in
+    let left = take_leaves w.today w.gates w.roster w.codes.now w.few c.remove_gate.new.roster c.in_ok-e.e list.0 (sound_due a w.sound) list.1 c.remove_gate.ensures.there in
     ap (with_waiting a) (left.0 ∙ sym (ap rest list.1))
