@@ -9,6 +9,7 @@ ghost use Rattle.fanout.specs.Seek.{net_at};
 use crate::pin::Pin;
 use crate::wiring::Wiring;
 use logic::family::Family;
+use logic::values::same;
 use number_set::set::NumberSet;
 use tick::settle::joined;
 
@@ -51,7 +52,7 @@ fn settle_net<F: Family>(
     ensures readers { (g : ℕ) → g < wiring.now.net.head.gates → member gates.new.words g ≡ false → result_at F.Family.logic (contents wiring.now.net) levels.new g ≡ result_at F.Family.logic (contents wiring.now.net) levels.old g }
 {
     let v = resolve_net::<F>(wiring, ports, drives, n);
-    if F::code(v) == F::code(levels[n as usize]) {
+    if same::<F>(v, levels[n as usize]) {
         return;
     }
     levels[n as usize] = v;
