@@ -15,6 +15,7 @@ use tick::settle::joined;
 
 // Resolves each net of the set, and empties it; adds every gate that reads a net whose level
 // changes to `gates`: a gate that does not stand there gives what it gave.
+// Kept as it is: ports and drives stay two parameters: `work_changed` is lent them so, and a struct would hold borrows.
 pub(crate) fn settle_touched<F: Family>(
     wiring: &Wiring,
     ports: &[F::Value; 1024],
@@ -36,7 +37,6 @@ pub(crate) fn settle_touched<F: Family>(
 }
 
 // One net, and the gates that read it if its level changes.
-// Kept as it is: the wiring, the ports and the drives are three parameters, since a struct of borrowed tables is no plainer: each clause would name `driven.now.wiring.now.net` for `wiring.now.net`.
 fn settle_net<F: Family>(
     wiring: &Wiring,
     ports: &[F::Value; 1024],

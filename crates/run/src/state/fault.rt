@@ -4,7 +4,7 @@ ghost use Rattle.run.specs.Faults.{number, letter, place};
 use super::RunFault;
 
 impl RunFault {
-    // The fault's number, from 16 to 23: those below belong to the layers below.
+    // From 16 to 23: the layers below have the numbers below.
     pub fn number(self) -> u8
         ensures { result ≡ number self }
     {

@@ -11,10 +11,10 @@ returns-then-first-second g c =
     let y = c.args.second.now in
     let laws = g.met.F.Family.laws in
     let answer : Compared g.F.Family g.C.Calendar g.D.Calendar x y None =
-        elim c.then-first-second.branch [
-            then-first-second-via-then-first-second w ↦ apart g.F.Family g.C.Calendar g.D.Calendar x y w.if-first-second.true
-          | then-first-second-via-else-first-second+then-first-eq0 w ↦ early g.F.Family g.C.Calendar g.D.Calendar x y w.if-first-second.false w.if-first-eq0.true
-        ] in
+    elim c.then-first-second.branch [
+      | then-first-second-via-then-first-second w ↦ apart g.F.Family g.C.Calendar g.D.Calendar x y w.if-first-second.true
+      | then-first-second-via-else-first-second+then-first-eq0 w ↦ early g.F.Family g.C.Calendar g.D.Calendar x y w.if-first-second.false w.if-first-eq0.true
+    ] in
     record {
       answer = answer;
       learned = learned g.F.Family g.C.Calendar g.D.Calendar x y laws None answer;
