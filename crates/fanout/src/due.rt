@@ -26,10 +26,10 @@ pub(crate) fn take_touched<F: Family, C: Calendar>(
     ensures calendar { C.Calendar.meaning calendar.new ≡ with_waiting (C.Calendar.meaning calendar.old) (left_over tick (C.Calendar.meaning calendar.old).waiting) }
     ensures touched { (g : ℕ) → g < wiring.now.net.head.gates → member nets.new.words (out_of (contents wiring.now.net) g) ≡ false → slice_index_or drives.new g F.Family.logic.unset ≡ slice_index_or drives.old g F.Family.logic.unset }
 {
-    while is_due(calendar, tick) {
-        if let Some(e) = calendar.take() {
-            apply::<F>(wiring, drives, nets, e);
-        }
+    while is_due(calendar, tick)
+        && let Some(e) = calendar.take()
+    {
+        apply::<F>(wiring, drives, nets, e);
     }
 }
 

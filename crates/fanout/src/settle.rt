@@ -9,11 +9,13 @@ ghost use Rattle.fanout.specs.Seek.{net_at};
 use crate::pin::Pin;
 use crate::wiring::Wiring;
 use logic::family::Family;
+use logic::values::same;
 use number_set::set::NumberSet;
 use tick::settle::joined;
 
 // Resolves each net of the set, and empties it; adds every gate that reads a net whose level
 // changes to `gates`: a gate that does not stand there gives what it gave.
+// Kept as it is: ports and drives stay two parameters: `work_changed` is lent them so, and a struct would hold borrows.
 pub(crate) fn settle_touched<F: Family>(
     wiring: &Wiring,
     ports: &[F::Value; 1024],
@@ -35,7 +37,6 @@ pub(crate) fn settle_touched<F: Family>(
 }
 
 // One net, and the gates that read it if its level changes.
-// Kept as it is: the wiring, the ports and the drives are three parameters, since a struct of borrowed tables is no plainer: each clause would name `driven.now.wiring.now.net` for `wiring.now.net`.
 fn settle_net<F: Family>(
     wiring: &Wiring,
     ports: &[F::Value; 1024],
@@ -51,7 +52,7 @@ fn settle_net<F: Family>(
     ensures readers { (g : ℕ) → g < wiring.now.net.head.gates → member gates.new.words g ≡ false → result_at F.Family.logic (contents wiring.now.net) levels.new g ≡ result_at F.Family.logic (contents wiring.now.net) levels.old g }
 {
     let v = resolve_net::<F>(wiring, ports, drives, n);
-    if F::code(v) == F::code(levels[n as usize]) {
+    if same::<F>(v, levels[n as usize]) {
         return;
     }
     levels[n as usize] = v;

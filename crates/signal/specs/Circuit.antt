@@ -18,7 +18,7 @@ gate_count C = length C.gates
 
 -- What each kind of gate gives on its inputs a and b, listed by the kind's number. A looked-over netlist has the kinds 1 to 11:
 -- 1 AND of a and a (a buffer), 2 NOT a, 3 AND, 4 OR, 5 XOR, 6 to 8 the NOT of 3 to 5, 9 TRI with data a and enable b,
--- 10 pull-up, 11 pull-down. Kind 0 only fills the place.
+-- 10 pull-up, 11 pull-down. No kind has the number 0, nor one above 11.
 abbrev pub results : {V : Type 0} → Logic V → V → V → List V
 results L a b =
     L.unset

@@ -91,6 +91,7 @@ pub fn gate_result<F: Family>(kind: GateKind, a: F::Value, b: F::Value) -> F::Va
 }
 
 // The same by a kind's number; one that no kind has gives unset.
+// Kept as it is: `gate_result` takes a kind alone; this call takes every number and may ask no more.
 #[tactic(auto, using(crate::proofs::Numbers::no_kind))]
 pub fn operate<F: Family>(kind: u8, a: F::Value, b: F::Value) -> F::Value
     ensures { result ≡ operate F.Family.logic kind a b }

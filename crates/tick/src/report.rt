@@ -10,6 +10,7 @@ use netlist::place::Netlist;
 
 // Writes a record for each watched net whose level differs, and answers the place behind them; nothing where there is no room for
 // a record of each watched net.
+// Kept as it is: `out` and `at` stay two parameters of this public call; of the private functions two alone take both.
 pub fn report<F: Family>(
     net: &Netlist,
     old: &[F::Value; 1024],

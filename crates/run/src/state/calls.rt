@@ -21,6 +21,7 @@ impl<F: Family, C: Calendar> Run<F, C> {
         ensures { Completed F.Family C.Calendar self.old out.old at self.new out.new result }
     {
         let still = self.still();
+        // A turn that is refused changes nothing; of a calendar that was fit at opening none is.
         let _ = self.calendar.turn(self.ticks);
         if still {
             self.ticks += 1;
@@ -155,9 +156,11 @@ impl<F: Family, C: Calendar> Run<F, C> {
     fn ready(&self) -> Result<(), RunFault>
         ensures { result ≡ readied self.now.fit self.now.ticks }
     {
-        self.fit
-            .then_some(())
-            .ok_or(RunFault::UnfitCalendar(self.ticks))
+        if self.fit {
+            Ok(())
+        } else {
+            Err(RunFault::UnfitCalendar(self.ticks))
+        }
     }
 
     // The value of a code.

@@ -6,6 +6,7 @@ ghost use Rattle.run.specs.Handled.{LawOfRuns};
 use super::Run;
 use calendar::calendar::Calendar;
 use logic::family::Family;
+use logic::values::same;
 
 // The lowest net at which a definite level of the first run, at its last completed tick, is contradicted by the second run's;
 // none where they have not completed equally many ticks, or no tick at all. A second run that only learned more contradicts nothing:
@@ -18,10 +19,7 @@ pub fn contradiction<F: Family, C: Calendar, D: Calendar>(
     ensures learned { LearningContradictsNone F.Family C.Calendar D.Calendar first.now second.now result }
     ensures law { LawOfRuns F.Family C.Calendar D.Calendar }
 {
-    if first.ticks != second.ticks {
-        return None;
-    }
-    if first.ticks == 0 {
+    if first.ticks != second.ticks || first.ticks == 0 {
         return None;
     }
     let nets = first.wiring.net.head.nets.min(second.wiring.net.head.nets);
@@ -44,5 +42,5 @@ fn lowest<F: Family>(first: &[F::Value; 1024], second: &[F::Value; 1024], nets: 
 fn contradicts<F: Family>(v: F::Value, w: F::Value) -> bool
     ensures { result ≡ contradicts F.Family.logic v w }
 {
-    F::definite(v) && F::code(v) != F::code(w)
+    F::definite(v) && !same::<F>(v, w)
 }

@@ -4,7 +4,7 @@ ghost use Rattle.run.specs.Faults.{number, letter, place};
 use super::RunFault;
 
 impl RunFault {
-    // 16 to 23.
+    // From 16 to 23: the layers below have the numbers below.
     pub fn number(self) -> u8
         ensures { result ≡ number self }
     {

@@ -17,6 +17,7 @@ use tick::plan::plan;
 use tick::settle::settle;
 
 // Works a tick: over every net and gate, or, of a calm run, over those that the entries of the tick reach.
+// Kept as it is: eight parameters: the public calls that it makes take the tables one by one, and a struct would be taken apart.
 pub(crate) fn work<F: Family, C: Calendar>(
     calm: bool,
     calendar: &mut C,

@@ -1,10 +1,7 @@
-use Rattle.std.proofs.Common.{◌≡◌, true, false, not, leb, [], ◌∷◌, length, is_some, Err, sym, refl, ap, ◌∙◌, subst, arith}
-use Rattle.std.proofs.lemmas.Result.{err_from_is_err_and}
-use Rattle.std.proofs.lemmas.Bool.{le-leb, lt-leb}
+use Rattle.std.proofs.Common.{◌≡◌, false, not, leb, [], ◌∷◌, length, is_some, sym, ap, ◌∙◌, arith}
+use Rattle.std.proofs.lemmas.Bool.{lt-leb}
 use Rattle.signal.specs.Calls.{drive, first_of}
-use Rattle.run.specs.declared.state.RunFault.TheVariants.{UnfitCalendar, NoSuchInput, NoSuchCode}
-use Rattle.run.specs.Calls.{Driven}
-use Rattle.run.proofs.Callings.{drive_refused, unfit, unready, is_ready, unvalued, is_valued, never, accepts, fit_on, ports_count, drive_fits}
+use Rattle.run.proofs.Callings.{is_ready, is_valued, never, accepts, fit_on, ports_count, drive_fits}
 use Rattle.run.proofs.state.Run.drive.Goals as goal
 
 pub returns : goal.returns

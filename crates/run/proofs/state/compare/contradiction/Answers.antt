@@ -1,7 +1,8 @@
 use Rattle.std.proofs.Common.{get_or, None, ap, ◌∙◌}
-use Rattle.run.specs.Compared.{lowest, contradicts}
+use Rattle.run.specs.Compared.{lowest, contradicts, Compared}
 use Rattle.run.proofs.Handlings.{law_of_runs}
 use Rattle.run.proofs.Comparing.{apart, early, compared, learned}
+use Rattle.run.proofs.state.compare.contradiction.Goals.{then-first-second-via-then-first-second, then-first-second-via-else-first-second+then-first-eq0}
 use Rattle.run.proofs.state.compare.contradiction.Goals as goal
 
 pub returns-then-first-second : goal.returns-then-first-second
@@ -9,19 +10,11 @@ returns-then-first-second g c =
     let x = c.args.first.now in
     let y = c.args.second.now in
     let laws = g.met.F.Family.laws in
-    let answer = apart g.F.Family g.C.Calendar g.D.Calendar x y c.if-first-second.true in
-    record {
-      answer = answer;
-      learned = learned g.F.Family g.C.Calendar g.D.Calendar x y laws None answer;
-      law = law_of_runs g.F.Family laws g.C.Calendar g.D.Calendar;
-    }
-
-pub returns-then-first-eq0 : goal.returns-then-first-eq0
-returns-then-first-eq0 g c =
-    let x = c.args.first.now in
-    let y = c.args.second.now in
-    let laws = g.met.F.Family.laws in
-    let answer = early g.F.Family g.C.Calendar g.D.Calendar x y c.if-first-second.false c.if-first-eq0.true in
+    let answer : Compared g.F.Family g.C.Calendar g.D.Calendar x y None =
+    elim c.then-first-second.branch [
+      | then-first-second-via-then-first-second w ↦ apart g.F.Family g.C.Calendar g.D.Calendar x y w.if-first-second.true
+      | then-first-second-via-else-first-second+then-first-eq0 w ↦ early g.F.Family g.C.Calendar g.D.Calendar x y w.if-first-second.false w.if-first-eq0.true
+    ] in
     record {
       answer = answer;
       learned = learned g.F.Family g.C.Calendar g.D.Calendar x y laws None answer;
