@@ -1,5 +1,8 @@
 ghost use Rattle.std.specs.Prelude.{◌≤◌, IfOk, vec_len};
-ghost use Rattle.board_file.specs.Boards.{BoardOf};
+ghost use Rattle.netlist.specs.Board.{WellFormed};
+ghost use Rattle.netlist.specs.Checks.{verdict};
+ghost use Rattle.netlist.specs.Looked.{contents};
+ghost use Rattle.board_file.specs.Boards.{BoardOf, OrEmpty};
 
 use netlist::fault::NetlistFault;
 use netlist::look_over::look_over;
@@ -29,4 +32,12 @@ pub fn board_of(bytes: &[u8]) -> Result<Netlist, NetlistFault>
     let mut board = Netlist::new();
     look_over(bytes, &mut board)?;
     Ok(board)
+}
+
+// The netlist of a file; for a file that is refused, the one that a place starts with.
+pub fn board_or_empty(bytes: &[u8]) -> Netlist
+    ensures board { OrEmpty bytes.now (verdict bytes.now) result }
+    ensures sound { WellFormed (contents result) }
+{
+    board_of(bytes).unwrap_or(Netlist::new())
 }

@@ -12,6 +12,7 @@ pub trait Named: Family {
     ghost naming: { Naming Self.Value };
 
     // Byte i of the name of a value, and 0 behind its end.
+    // Kept as it is: a family is a trait with a WIDTH constant, and no public call asks anything of its callers.
     fn name_byte(a: Self::Value, i: usize) -> u8
         ensures { result ≡ slice_index (naming.name a) i };
 

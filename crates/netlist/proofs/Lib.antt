@@ -6,5 +6,5 @@ mod Accepted
 pub mod Contents
 mod Slices
 mod Exact
-mod Back
+pub mod Back
 mod Theorem

@@ -4,7 +4,7 @@ ghost use Rattle.netlist.specs.Kinds.{kind_number, reads_a, reads_b, Decodes};
 // The kinds of gates, in the order of their numbers in a file, 1 to 11.
 #[derive(Clone, Copy, Debug, PartialEq, Eq)]
 pub enum GateKind {
-    Buffer,
+    Buffer = 1,
     Not,
     And,
     Or,
@@ -48,19 +48,7 @@ impl From<GateKind> for u8 {
     ghost from_gives = { λ kind number. number ≡ kind_number kind };
 
     fn from(kind: GateKind) -> u8 {
-        match kind {
-            GateKind::Buffer => 1,
-            GateKind::Not => 2,
-            GateKind::And => 3,
-            GateKind::Or => 4,
-            GateKind::Xor => 5,
-            GateKind::Nand => 6,
-            GateKind::Nor => 7,
-            GateKind::Xnor => 8,
-            GateKind::Tri => 9,
-            GateKind::PullUp => 10,
-            GateKind::PullDown => 11,
-        }
+        kind as u8
     }
 }
 

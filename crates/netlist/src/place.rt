@@ -5,6 +5,7 @@ ghost use Rattle.netlist.specs.Parts.{blank, is_output};
 
 use crate::gate::{Gate, Head};
 
+// Kept as it is: the place is laid down as plain tables of fixed memory, which are written whole.
 #[derive(Drop)]
 pub struct Netlist {
     pub head: Head,

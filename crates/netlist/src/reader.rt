@@ -88,10 +88,8 @@ impl<'a> File<'a> {
         let b = be16(self.bytes, at + 3);
         let out = be16(self.bytes, at + 5);
         let delay = be16(self.bytes, at + 7);
-        if a >= nets || b >= nets || out >= nets {
-            return Err(NetlistFault::Net(at));
-        }
-        if (!kind.reads_a() && a != 0) || (!kind.reads_b() && b != 0) {
+        let unused_set = (!kind.reads_a() && a != 0) || (!kind.reads_b() && b != 0);
+        if a >= nets || b >= nets || out >= nets || unused_set {
             return Err(NetlistFault::Net(at));
         }
         if delay == 0 || delay > 64 {
@@ -106,6 +104,7 @@ impl<'a> File<'a> {
         })
     }
 
+    // Kept as it is: the place's plain inner table, filled one record at a time.
     pub(crate) fn gates(&self) -> Result<[Gate; 1024], NetlistFault>
         ensures { result ≡ answer (gates_fault self.now.bytes.now) (table blank (gates_of self.now.bytes.now)) }
     {
@@ -121,15 +120,13 @@ impl<'a> File<'a> {
     {
         let at = 13 + 9 * self.head.gates as usize + 2 * i;
         let net = be16(self.bytes, at);
-        if net >= self.head.nets {
-            return Err(NetlistFault::Watch(at));
-        }
-        if i > 0 && net <= be16(self.bytes, at - 2) {
+        if net >= self.head.nets || (i > 0 && net <= be16(self.bytes, at - 2)) {
             return Err(NetlistFault::Watch(at));
         }
         Ok(net)
     }
 
+    // Kept as it is: the place's plain inner table, filled one watch at a time.
     pub(crate) fn watches(&self) -> Result<[u16; 1024], NetlistFault>
         ensures { result ≡ answer (watches_fault self.now.bytes.now) (table 0 (watches_of self.now.bytes.now)) }
     {

@@ -23,8 +23,7 @@ pub fn answer_line<F: Named, C: Calendar>(
 ) -> (usize, Option<ScriptFault>)
     ensures { Answered F.Family F.Named.own C.Calendar run.old line.now number out.old trace.old run.new out.new trace.new result }
 {
-    let fit = buffers_fit(out, trace);
-    if !fit {
+    if !buffers_fit(out, trace) {
         return (0, Some(ScriptFault::SmallBuffers(number)));
     }
     match parse::<F>(line) {
@@ -99,6 +98,7 @@ fn narrow(n: u32) -> u16
     u16::try_from(n).unwrap_or(u16::MAX)
 }
 
+// Kept as it is: the script's fault is wrapped round the run's by `From`, and a fault of the run does not know its line.
 fn at_line<T>(r: Result<T, RunFault>, line: u32) -> Result<T, AtLine>
     ensures { result ≡ at_line line r }
 {

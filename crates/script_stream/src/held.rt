@@ -1,4 +1,4 @@
-ghost use Rattle.std.specs.Prelude.{◌≡◌, [], ◌∷◌, ◌++◌, take};
+ghost use Rattle.std.specs.Prelude.{◌≡◌, ◌≤◌, [], ◌∷◌, ◌++◌, length, take};
 
 use arrayvec::ArrayVec;
 
@@ -36,7 +36,8 @@ impl Held {
     }
 
     pub fn text(&self) -> &[u8]
-        ensures { result.now ≡ self.now.kept.items }
+        ensures value { result.now ≡ self.now.kept.items }
+        ensures fits { length result.now ≤ 33 }
     {
         self.kept.as_slice()
     }

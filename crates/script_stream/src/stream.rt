@@ -1,7 +1,9 @@
 use crate::held::Held;
+use crate::verdict::Verdict;
 use calendar::calendar::Calendar;
 use logic::named::Named;
 use run::state::Run;
+use run::state::compare::contradiction;
 use script::line::answer_line;
 use std::alloc::Global;
 use std::io;
@@ -42,6 +44,21 @@ pub fn work_script<F: Named, C: Calendar, R: Read, W: Write>(
     if !desk.held.text().is_empty() {
         desk.work_line(run, sink)?;
     }
+    sink.flush()
+}
+
+// Works a script on each of two runs, and says whether the second run contradicts a definite level of the first.
+pub fn work_both<F: Named, C: Calendar, D: Calendar, R: Read, S: Read, W: Write>(
+    first: &mut Run<F, C>,
+    script: &mut R,
+    second: &mut Run<F, D>,
+    other: &mut S,
+    sink: &mut W,
+    heap: Global,
+) -> io::Result<()> {
+    work_script(first, script, sink, heap)?;
+    work_script(second, other, sink, heap)?;
+    writeln!(sink, "{}", Verdict(contradiction(first, second)))?;
     sink.flush()
 }
 

@@ -13,23 +13,17 @@ fn read_number(digits: &[u8]) -> Option<u32>
     }
     let mut n: u32 = 0;
     for d in digits {
-        match *d as char {
-            '0'..='9' => n = n * 10 + (*d - 48) as u32,
-            _ => return None,
-        }
+        n = n * 10 + (*d as char).to_digit(10)?;
     }
     Some(n)
 }
 
 // The character at a place of a line, or 0 past its end.
-// Kept as it is: no command word has a letter 0, and cases of Some('w') and so on would be no plainer.
+// Kept as it is: the bytes of a command word are read as chars and decided by cases of letters, and no word has a letter 0.
 fn letter(line: &[u8], i: usize) -> char
     ensures { result ≡ slice_index line.now i }
 {
-    match line.get(i) {
-        Some(b) => *b as char,
-        None => '\0',
-    }
+    line.get(i).map_or('\0', |b| *b as char)
 }
 
 // The first word of a line, which a space must follow.

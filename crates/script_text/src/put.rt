@@ -5,6 +5,7 @@ ghost use Rattle.script_text.specs.Laid.{Lays};
 use logic::named::Named;
 
 // A buffer that is written from its start on, as far as there is room, and the place behind what was written.
+// Kept as it is: of `write!` std says what it writes only where it answers Ok, and a full buffer is no fault here.
 #[derive(Drop)]
 pub(crate) struct Writer<'a> {
     out: &'a mut [u8],
