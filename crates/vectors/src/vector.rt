@@ -16,6 +16,24 @@ pub struct Vector {
 }
 
 impl Vector {
+    // A vector over a board.
+    pub(crate) fn of(
+        heap: Global,
+        name: &'static str,
+        values: Values,
+        board: Vec<u8>,
+        script: &str,
+        expected: &str,
+    ) -> Result<Vector, AllocError> {
+        Ok(Vector {
+            name,
+            values,
+            board,
+            script: String::from_str(heap, script)?,
+            expected: String::from_str(heap, expected)?,
+        })
+    }
+
     // Whether these are the answers that the board and the script must have.
     pub fn agrees(&self, answers: &[u8]) -> bool
         ensures { IsTrue result ↔ (answers.now ≡ string_bytes self.now.expected) }
