@@ -1,4 +1,6 @@
 // Small circuits with waveforms worked out by hand.
+ghost use Rattle.std.specs.Prelude.{◌≡◌, IfOk, codes};
+
 use crate::laid;
 use crate::laid::{Gate, Kind};
 use crate::values::Values;
@@ -18,7 +20,9 @@ fn gate(kind: Kind, a: u16, b: u16, out: u16) -> Gate {
 
 // A port and its NOT, two ticks late; the file is written out byte by byte.
 // The NOT is U at ticks 0 and 1, and at tick 2 the NOT of the 1 that the port had at tick 0.
-pub fn inverter(heap: Global) -> Result<Vector, AllocError> {
+pub fn inverter(heap: Global) -> Result<Vector, AllocError>
+    ensures { IfOk result (λ v. v.name.now ≡ codes "inverter") }
+{
     let board = Vec::from_slice(
         heap,
         b"\x4e\x4c\x42\x00\x01\x00\x02\x00\x01\x00\x01\x00\x02\
@@ -41,7 +45,9 @@ pub fn inverter(heap: Global) -> Result<Vector, AllocError> {
 // the other output falls at 3. Closed at 6: 3 and 4 are both 1 from 7 on, and the pair keeps
 // itself. D falls at 9 and nothing moves. Open again at 13: 4 falls at 14 (2 has been 1 since 10),
 // so 6 rises at 15 and Q falls at 16.
-pub fn d_latch(heap: Global) -> Result<Vector, AllocError> {
+pub fn d_latch(heap: Global) -> Result<Vector, AllocError>
+    ensures { IfOk result (λ v. v.name.now ≡ codes "d_latch") }
+{
     let gates = [
         gate(Kind::Not, 0, 0, 2),
         gate(Kind::Nand, 0, 1, 3),
@@ -71,7 +77,9 @@ pub fn d_latch(heap: Global) -> Result<Vector, AllocError> {
 // 1 and 1, so both fall at 4, both rise at 5, both fall at 6, for neither is slower. Input 0 low
 // at 7: both still rise at 7; from 8 on output 2 is held at 1 and output 3 sees 1 and 1 and falls.
 // Released again at 11 the latch keeps what it has.
-pub fn rs_latch(heap: Global) -> Result<Vector, AllocError> {
+pub fn rs_latch(heap: Global) -> Result<Vector, AllocError>
+    ensures { IfOk result (λ v. v.name.now ≡ codes "rs_latch") }
+{
     let gates = [gate(Kind::Nand, 0, 3, 2), gate(Kind::Nand, 1, 2, 3)];
     let board = laid::file(heap, 4, 2, &gates, &[0, 1, 2, 3])?;
     Vector::of(
@@ -103,7 +111,9 @@ pub fn rs_latch(heap: Global) -> Result<Vector, AllocError> {
 // the second at rest with clock 1 and q = 0, so they are 0 1 1 0 1 0 1.
 // Rises at 10, 30, 50, 70: q of the first rises at 12, falls at 34, rises at 52, falls at 74.
 // Its not-q rises at 33 and 73: q of the second rises at 35 and falls at 77. Counted: 1, 2, 3, 0.
-pub fn ripple_counter(heap: Global) -> Result<Vector, AllocError> {
+pub fn ripple_counter(heap: Global) -> Result<Vector, AllocError>
+    ensures { IfOk result (λ v. v.name.now ≡ codes "ripple_counter") }
+{
     let gates = [
         gate(Kind::Nand, 5, 2, 1),
         gate(Kind::Nand, 1, 0, 2),
@@ -160,7 +170,9 @@ fn bus(heap: Global) -> Result<Vec<u8>, AllocError> {
 // Its enable L, which reads 0, from 10: Z again, so 1, at 11.
 // The second's data H, enabled by H, from 12: H reads 1, so its output stays 1 and nothing moves.
 // The second let go by L, from 14: H, at 15. Enable U, from 16: U, at 17.
-pub fn bus_of_nine(heap: Global) -> Result<Vector, AllocError> {
+pub fn bus_of_nine(heap: Global) -> Result<Vector, AllocError>
+    ensures { IfOk result (λ v. v.name.now ≡ codes "bus_of_nine") }
+{
     let board = bus(heap)?;
     Vector::of(
         heap,
@@ -194,7 +206,9 @@ pub fn bus_of_nine(heap: Global) -> Result<Vector, AllocError> {
 // The second alone from 6: 6600, at 7. The first's enable 0000, which reads neither, from 8: it
 // may pull down by up to 6, so 6606, at 9. The second let go too, from 10: 3306, at 11.
 // The first's data unknown as well, from 12: up to 6 either way, 3606, at 13.
-pub fn bus_of_pulls(heap: Global) -> Result<Vector, AllocError> {
+pub fn bus_of_pulls(heap: Global) -> Result<Vector, AllocError>
+    ensures { IfOk result (λ v. v.name.now ≡ codes "bus_of_pulls") }
+{
     let board = bus(heap)?;
     Vector::of(
         heap,

@@ -1,5 +1,7 @@
 // The tables of IEEE 1164 in full, as the standard prints them: rows are the left operand,
 // columns the right one, both in the order U X 0 1 Z W L H -. A board looks up every entry.
+ghost use Rattle.std.specs.Prelude.{◌≡◌, IfOk, codes};
+
 use crate::laid;
 use crate::laid::{Gate, Kind};
 use crate::values::{Values, letter};
@@ -79,7 +81,9 @@ pub fn gate_table(
     name: &'static str,
     kind: Kind,
     table: &[u8],
-) -> Result<Vector, AllocError> {
+) -> Result<Vector, AllocError>
+    ensures { IfOk result (λ v. v.name.now ≡ name.now) }
+{
     let board = all_pairs(heap, kind)?;
     let mut script = String::new(heap);
     let mut expected = String::new(heap);
@@ -116,7 +120,9 @@ fn all_meetings(heap: Global) -> Result<Vec<u8>, AllocError> {
 }
 
 // Looks up every entry of the resolution: the row's value by the port, the column's by the gate.
-pub fn resolution_table(heap: Global) -> Result<Vector, AllocError> {
+pub fn resolution_table(heap: Global) -> Result<Vector, AllocError>
+    ensures { IfOk result (λ v. v.name.now ≡ codes "resolution") }
+{
     let board = all_meetings(heap)?;
     let mut script = String::new(heap);
     let mut expected = String::new(heap);

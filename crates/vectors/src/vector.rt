@@ -1,5 +1,6 @@
 // The list of vectors, and how to hold a bench to one.
-ghost use Rattle.std.specs.Prelude.{◌≡◌, ◌↔◌, IsTrue, IfOk, vec_len, string_bytes};
+ghost use Rattle.std.specs.Prelude.{◌≡◌, ◌↔◌, IsTrue, IfOk, map, vec_items, vec_len, string_bytes};
+ghost use Rattle.vectors.specs.Names.{names};
 
 use crate::laid::Kind;
 use crate::values::Values;
@@ -24,7 +25,9 @@ impl Vector {
         board: Vec<u8>,
         script: &str,
         expected: &str,
-    ) -> Result<Vector, AllocError> {
+    ) -> Result<Vector, AllocError>
+        ensures { IfOk result (λ v. v.name.now ≡ name.now) }
+    {
         Ok(Vector {
             name,
             values,
@@ -44,7 +47,8 @@ impl Vector {
 
 // All vectors.
 pub fn all(heap: Global) -> Result<Vec<Vector>, AllocError>
-    ensures { IfOk result (λ all. vec_len all ≡ 16) }
+    ensures count { IfOk result (λ all. vec_len all ≡ 16) }
+    ensures names { IfOk result (λ all. map (λ v. v.name.now) (vec_items all) ≡ names) }
 {
     Ok(vec![in heap;
         circuits::inverter(heap)?,
