@@ -23,20 +23,6 @@ struct Style {
     longest: u32,
 }
 
-const ANY: &[Kind] = &[
-    Kind::Buffer,
-    Kind::Not,
-    Kind::And,
-    Kind::Or,
-    Kind::Xor,
-    Kind::Nand,
-    Kind::Nor,
-    Kind::Xnor,
-    Kind::Tri,
-    Kind::PullUp,
-    Kind::PullDown,
-];
-
 const RESTLESS: &[Kind] = &[
     Kind::Not,
     Kind::Not,
@@ -65,11 +51,11 @@ const BUSES: &[Kind] = &[
 
 fn any_style(random: &mut Random) -> Style {
     let (kinds, longest) = match random.below(5) {
-        0 => (ANY, 64),
+        0 => (&Kind::ALL, 64),
         1 => (RESTLESS, 2),
         2 => (RESTLESS, 9),
         3 => (BUSES, 5),
-        _ => (ANY, 6),
+        _ => (&Kind::ALL, 6),
     };
     Style { kinds, longest }
 }
@@ -118,19 +104,19 @@ fn outputs(
     ports: u32,
     more: u32,
 ) -> Result<Vec<u16>, AllocError> {
-    let mut list: Vec<u16> = (ports..nets).map(narrow).collect(heap)?;
-    for _ in 0..more {
-        list.push(narrow(random.below(nets)))?;
-    }
-    Ok(list)
+    (ports..nets)
+        .chain((0..more).map(|_| random.below(nets)))
+        .map(narrow)
+        .collect(heap)
 }
 
 // Swaps each element with one at or before it.
+// Kept as it is: a swap in place needs both places, so the loop counts them.
 fn shuffle(random: &mut Random, list: &mut [u16]) {
     for i in 0..list.len() {
         let n = u32::try_from(i).unwrap_or(0).saturating_add(1);
         let j = random.below(n) as usize;
-        if i < list.len() && j < list.len() {
+        if j < list.len() {
             list.swap(i, j);
         }
     }
