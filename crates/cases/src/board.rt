@@ -23,6 +23,8 @@ struct Style {
     longest: u32,
 }
 
+const ANY: &[Kind] = &Kind::ALL;
+
 const RESTLESS: &[Kind] = &[
     Kind::Not,
     Kind::Not,
@@ -51,11 +53,11 @@ const BUSES: &[Kind] = &[
 
 fn any_style(random: &mut Random) -> Style {
     let (kinds, longest) = match random.below(5) {
-        0 => (&Kind::ALL, 64),
+        0 => (ANY, 64),
         1 => (RESTLESS, 2),
         2 => (RESTLESS, 9),
         3 => (BUSES, 5),
-        _ => (&Kind::ALL, 6),
+        _ => (ANY, 6),
     };
     Style { kinds, longest }
 }
