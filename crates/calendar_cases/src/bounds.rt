@@ -79,7 +79,8 @@ pub fn full<C: Calendar + Drop>(rt: &HostRuntime, name: &str, mut c: C) -> anyho
     make(rt, &mut c, ROOM)
 }
 
-fn told(sum: u64, e: Entry) -> u64 {
+// Kept as it is: `calendar_speed` mixes other fields with another factor, and the printed sums stay.
+fn mixed(sum: u64, e: Entry) -> u64 {
     sum.wrapping_mul(66)
         .wrapping_add(u64::from(e.tick))
         .wrapping_add(u64::from(e.code))
@@ -103,7 +104,7 @@ pub fn sixty_five<C: Calendar + Drop>(
             ("put the 65th", Call::Put(65, 0, 65)),
         ],
     )?;
-    let sum = iter::from_fn(|| c.take()).take(66).fold(0, told);
+    let sum = iter::from_fn(|| c.take()).take(66).fold(0, mixed);
     println!(rt; "  the sum of what was taken {sum}")?;
     make(rt, &mut c, &[("take", Call::Take)])
 }

@@ -29,7 +29,7 @@ pub fn differing(answers: &[Answer], right: Answer) -> usize {
 
 // Makes the same calls by chance of a plain calendar and of others. The closure asks the others, and says how many of their answers
 // are not the right one.
-pub fn drive<D: FnMut(Call, Answer) -> usize>(
+pub(crate) fn drive<D: FnMut(Call, Answer) -> usize>(
     mut random: Random,
     rounds: u32,
     plain: &mut Plain,

@@ -40,21 +40,21 @@ impl Plain {
         self.waiting.len()
     }
 
-    // Why a put is refused, if it is.
-    fn refusal(&self, tick: u32, gate: u16) -> Option<Reason> {
+    // Refuses a put of this tick and gate that may not be.
+    fn check(&self, tick: u32, gate: u16) -> Result<(), CalendarFault> {
         if gate >= self.gates {
-            return Some(Reason::NoGate);
+            return Err(Reason::NoGate.at(self.today));
         }
         if tick <= self.today || tick - self.today > 64 {
-            return Some(Reason::BadTick);
+            return Err(Reason::BadTick.at(self.today));
         }
         if self.waiting.contains_key(&(tick, gate)) {
-            return Some(Reason::Twice);
+            return Err(Reason::Twice.at(self.today));
         }
         if self.waiting.len() >= self.capacity as usize {
-            return Some(Reason::Full);
+            return Err(Reason::Full.at(self.today));
         }
-        None
+        Ok(())
     }
 
     fn put(
@@ -63,8 +63,8 @@ impl Plain {
         gate: u16,
         code: u16,
     ) -> Result<Result<(), CalendarFault>, AllocError> {
-        if let Some(reason) = self.refusal(tick, gate) {
-            return Ok(Err(reason.at(self.today)));
+        if let Err(fault) = self.check(tick, gate) {
+            return Ok(Err(fault));
         }
         self.waiting.insert((tick, gate), code)?;
         Ok(Ok(()))

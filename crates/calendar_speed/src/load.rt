@@ -31,7 +31,8 @@ impl Load {
     }
 }
 
-fn told(sum: u64, e: Entry) -> u64 {
+// Kept as it is: `calendar_cases` mixes other fields with another factor, and the printed sums stay.
+fn mixed(sum: u64, e: Entry) -> u64 {
     sum.wrapping_mul(31)
         .wrapping_add(u64::from(e.tick))
         .wrapping_add(u64::from(e.gate))
@@ -48,17 +49,22 @@ fn delay(random: &mut Random) -> u32 {
     ((random.draw() >> 20) % 64) as u32 + 1
 }
 
+// An entry for each of 200 gates.
+fn fill<C: Calendar>(c: &mut C, random: &mut Random) {
+    for gate in 0..200 {
+        let _ = c.put(delay(random), gate, 1);
+    }
+}
+
 fn carry_steady<C: Calendar + Drop>(mut c: C, entries: u32) -> u64 {
     let mut random = Random::from_state(88172645463325252);
     let mut sum = 0;
-    for gate in 0..200 {
-        let _ = c.put(delay(&mut random), gate, 1);
-    }
+    fill(&mut c, &mut random);
     for _ in 0..entries {
         let later = delay(&mut random);
         if let Some(e) = turned(&mut c) {
             let _ = c.put(e.tick.wrapping_add(later), e.gate, e.code);
-            sum = told(sum, e);
+            sum = mixed(sum, e);
         }
     }
     sum
@@ -78,5 +84,5 @@ fn carry_flood<C: Calendar + Drop>(mut c: C, entries: u32) -> u64 {
 
 // Takes all entries, at most one of each gate.
 fn emptied<C: Calendar>(c: &mut C, sum: u64) -> u64 {
-    iter::from_fn(|| turned(c)).take(1024).fold(sum, told)
+    iter::from_fn(|| turned(c)).take(1024).fold(sum, mixed)
 }

@@ -23,19 +23,7 @@ struct Style {
     longest: u32,
 }
 
-const ANY: &[Kind] = &[
-    Kind::Buffer,
-    Kind::Not,
-    Kind::And,
-    Kind::Or,
-    Kind::Xor,
-    Kind::Nand,
-    Kind::Nor,
-    Kind::Xnor,
-    Kind::Tri,
-    Kind::PullUp,
-    Kind::PullDown,
-];
+const ANY: &[Kind] = &Kind::ALL;
 
 const RESTLESS: &[Kind] = &[
     Kind::Not,
@@ -118,19 +106,19 @@ fn outputs(
     ports: u32,
     more: u32,
 ) -> Result<Vec<u16>, AllocError> {
-    let mut list: Vec<u16> = (ports..nets).map(narrow).collect(heap)?;
-    for _ in 0..more {
-        list.push(narrow(random.below(nets)))?;
-    }
-    Ok(list)
+    (ports..nets)
+        .chain((0..more).map(|_| random.below(nets)))
+        .map(narrow)
+        .collect(heap)
 }
 
 // Swaps each element with one at or before it.
+// Kept as it is: a swap in place needs both places, so the loop counts them.
 fn shuffle(random: &mut Random, list: &mut [u16]) {
     for i in 0..list.len() {
         let n = u32::try_from(i).unwrap_or(0).saturating_add(1);
         let j = random.below(n) as usize;
-        if i < list.len() && j < list.len() {
+        if j < list.len() {
             list.swap(i, j);
         }
     }

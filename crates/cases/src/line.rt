@@ -143,6 +143,7 @@ fn may_slip(line: &[u8]) -> bool {
 }
 
 // A line of a script, without its end.
+// Kept as it is: three functions take all four of these; a struct of them would go to eight that use two or three.
 pub fn line(
     heap: Global,
     random: &mut Random,

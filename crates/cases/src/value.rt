@@ -1,9 +1,7 @@
 // Codes and names of values.
 use crate::random::Random;
 use std::alloc::{AllocError, Global};
-use vectors::values::Values;
-
-const LETTERS: &[u8] = b"UX01ZWLH-";
+use vectors::values::{Values, letter};
 
 // A pull range as its code: two pairs of digits, each in order.
 fn any_pull(random: &mut Random) -> u32 {
@@ -45,10 +43,7 @@ pub fn odd_code(random: &mut Random) -> u32 {
 // The name of the value with this code.
 pub fn name(heap: Global, values: Values, code: u32) -> Result<String, AllocError> {
     match values {
-        Values::Nine => {
-            let letter = LETTERS.get(code as usize).copied().unwrap_or(b'?');
-            char::from(letter).to_string(heap)
-        }
+        Values::Nine => letter(code).to_string(heap),
         Values::Pulls => format!(in heap; "{code:04o}"),
     }
 }

@@ -1,8 +1,9 @@
 // A case starts from a good file, which its changes damage.
 use netlist::fault::NetlistFault;
-use netlist::gate::GateKind;
 use netlist::inventory::Inventory;
 use std::alloc::{AllocError, Global};
+use vectors::laid;
+use vectors::laid::{Gate, Kind};
 
 // What a board has.
 #[derive(Clone, Copy, PartialEq)]
@@ -58,38 +59,26 @@ pub(crate) struct Case {
 
 // Gate g has kind 1 + g mod 11 and delay 1 + g mod 64. It reads the last net where its kind reads any,
 // and drives the g-th net behind the ports, or the last.
-fn add_gate(file: &mut Vec<u8>, board: Counts, g: u16) -> Result<(), AllocError> {
+fn nth_gate(board: Counts, g: u16) -> Gate {
     let last = board.nets.saturating_sub(1);
-    let kind = GateKind::try_from((1 + g % 11) as u8).unwrap_or(GateKind::Buffer);
-    let a = if kind.reads_a() { last } else { 0 };
-    let b = if kind.reads_b() { last } else { 0 };
-    let out = board.ports.saturating_add(g).min(last);
-    file.push(kind.into())?;
-    add_words(file, &[a, b, out, 1 + g % 64])
-}
-
-fn add_words(file: &mut Vec<u8>, words: &[u16]) -> Result<(), AllocError> {
-    for word in words {
-        file.extend_from_slice(&word.to_be_bytes())?;
+    let kind = Kind::ALL[(g % 11) as usize];
+    Gate {
+        kind,
+        a: if kind.reads_a() { last } else { 0 },
+        b: if kind.reads_b() { last } else { 0 },
+        out: board.ports.saturating_add(g).min(last),
+        delay: 1 + g % 64,
     }
-    Ok(())
 }
 
 // The file of a board that watches its first nets.
 fn good_file(heap: Global, board: Counts) -> Result<Vec<u8>, AllocError> {
-    let mut file = Vec::new(heap);
-    file.extend_from_slice(b"NLB")?;
-    add_words(
-        &mut file,
-        &[1, board.nets, board.ports, board.gates, board.watched],
-    )?;
-    for g in 0..board.gates {
-        add_gate(&mut file, board, g)?;
-    }
-    for net in 0..board.watched {
-        add_words(&mut file, &[net])?;
-    }
-    Ok(file)
+    let gates = (0..board.gates)
+        .map(|g| nth_gate(board, g))
+        .collect::<Vec<Gate>>(heap)?;
+    let watches = (0..board.watched).collect::<Vec<u16>>(heap)?;
+    let (gates, watches) = (gates.as_slice(), watches.as_slice());
+    laid::file(heap, board.nets, board.ports, gates, watches)
 }
 
 // Writes the bytes from an offset on, as far as the file goes.

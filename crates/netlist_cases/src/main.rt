@@ -35,7 +35,8 @@ fn report(rt: &HostRuntime, number: Option<u8>) -> io::Result<()> {
         .try_collect::<Vec<bool>>(heap)?;
     for (i, right) in agreed.iter().enumerate() {
         if !right {
-            println!(rt; "number {shown}: case {i}, counted from 0, is wrong")?;
+            let case = i.saturating_add(1);
+            println!(rt; "number {shown}: case {case} is wrong")?;
         }
     }
     let cases = agreed.len();

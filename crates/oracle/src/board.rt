@@ -29,19 +29,17 @@ struct File<'a> {
     watches: &'a [u8],
 }
 
-// Two bytes, the high one first; 0 where there are none.
-fn word(bytes: &[u8], at: usize) -> u32 {
-    match bytes.get(at..) {
-        Some([high, low, ..]) => u32::from(u16::from_be_bytes([*high, *low])),
-        _ => 0,
-    }
+// Two bytes, the high one first.
+fn word(pair: [u8; 2]) -> u32 {
+    u32::from(u16::from_be_bytes(pair))
 }
 
 impl Gate {
-    fn read(record: &[u8], nets: u32) -> Result<Gate, Refusal> {
-        let kind = Kind::try_from(record.first().copied().unwrap_or(0))?;
-        let (a, b) = (word(record, 1), word(record, 3));
-        let (out, delay) = (word(record, 5), word(record, 7));
+    fn read(record: [u8; 9], nets: u32) -> Result<Gate, Refusal> {
+        let [kind, a, b, c, d, e, f, g, h] = record;
+        let kind = Kind::try_from(kind)?;
+        let (a, b) = (word([a, b]), word([c, d]));
+        let (out, delay) = (word([e, f]), word([g, h]));
         let unused_is_set = (!kind.reads_a() && a != 0) || (!kind.reads_b() && b != 0);
         if a >= nets || b >= nets || out >= nets || unused_is_set {
             return Err(Refusal::Net);
@@ -62,13 +60,14 @@ impl Gate {
 impl<'a> File<'a> {
     fn read(bytes: &'a [u8]) -> Result<File<'a>, Fault> {
         let length = bytes.len() as u64;
-        let Some((head, rest)) = bytes.split_at_checked(13) else {
+        let Some((head, rest)) = bytes.split_first_chunk::<13>() else {
             return Err(Refusal::Short.at(length));
         };
+        let [_, _, _, v0, v1, n0, n1, p0, p1, g0, g1, w0, w1] = *head;
+        let (nets, ports) = (word([n0, n1]), word([p0, p1]));
+        let (count, watched) = (word([g0, g1]), word([w0, w1]));
         Refusal::Mark.unless(head.starts_with(b"NLB"), 0)?;
-        Refusal::Version.unless(word(head, 3) == 1, 3)?;
-        let (nets, ports) = (word(head, 5), word(head, 7));
-        let (count, watched) = (word(head, 9), word(head, 11));
+        Refusal::Version.unless(word([v0, v1]) == 1, 3)?;
         Refusal::Count.unless((1..=1024).contains(&nets), 5)?;
         Refusal::Count.unless(ports <= nets, 7)?;
         Refusal::Count.unless(count <= 1024, 9)?;
@@ -87,9 +86,10 @@ impl<'a> File<'a> {
     // The gates, each a record of nine bytes.
     fn gates(&self, heap: Global) -> Result<Vec<Gate>, Failure> {
         let mut gates = Vec::new(heap);
-        for (g, record) in self.gates.chunks_exact(9).enumerate() {
+        let (records, _) = self.gates.as_chunks::<9>();
+        for (g, record) in records.iter().enumerate() {
             let place = (g as u64).saturating_mul(9).saturating_add(13);
-            gates.push(Gate::read(record, self.nets).map_err(|refusal| refusal.at(place))?)?;
+            gates.push(Gate::read(*record, self.nets).map_err(|refusal| refusal.at(place))?)?;
         }
         Ok(gates)
     }
@@ -98,8 +98,9 @@ impl<'a> File<'a> {
     fn watches(&self, heap: Global) -> Result<Vec<u32>, Failure> {
         let from = (self.gates.len() as u64).saturating_add(13);
         let mut watches = Vec::new(heap);
-        for (i, pair) in self.watches.chunks_exact(2).enumerate() {
-            let net = word(pair, 0);
+        let (pairs, _) = self.watches.as_chunks::<2>();
+        for (i, pair) in pairs.iter().enumerate() {
+            let net = word(*pair);
             let rises = watches.last().is_none_or(|before| *before < net);
             let place = (i as u64).saturating_mul(2).saturating_add(from);
             Refusal::Watch.unless(net < self.nets && rises, place)?;

@@ -65,7 +65,7 @@ pub const RESOLVE: &[u8] = b"\
     UX01HWWHX\
     UXXXXXXXX";
 
-// Kept as it is: a value is its code, as in the other family, so that one simulator serves both; an enum would be made and unmade at each use.
+// Kept as it is: the simulator keeps codes, to serve both families; the tables are read by letter, with no enum between.
 
 // The code of a letter.
 pub fn code_of(letter: u8) -> Option<u32> {

@@ -99,14 +99,18 @@ impl Simulator {
     // What a gate drives at a tick: its start level until its delay has passed, then its
     // operation on what its inputs were, the delay ago.
     fn output(&self, driver: &Driver, tick: usize) -> u32 {
-        let gate = driver.gate;
-        match tick.checked_sub(gate.delay as usize) {
-            None => driver.start,
-            Some(then) => {
-                let (a, b) = (self.level(gate.a, then), self.level(gate.b, then));
-                self.family.operate(gate.kind, a, b)
-            }
-        }
+        let Gate {
+            kind,
+            a,
+            b,
+            delay,
+            ..
+        } = driver.gate;
+        let seen = tick.checked_sub(delay as usize);
+        seen.map_or(driver.start, |then| {
+            let (a, b) = (self.level(a, then), self.level(b, then));
+            self.family.operate(kind, a, b)
+        })
     }
 
     // What a net is at a tick whose inputs are known: its drivers joined from the left, the port
@@ -138,10 +142,10 @@ impl Simulator {
     fn report(&self, tick: u32, records: &mut Vec<Record>) -> Result<(), AllocError> {
         for net in self.watches.iter() {
             let code = self.level(*net, tick as usize);
-            let before = match tick.checked_sub(1) {
-                Some(earlier) => self.level(*net, earlier as usize),
-                None => self.family.unset(),
-            };
+            let earlier = tick.checked_sub(1);
+            let before = earlier.map_or(self.family.unset(), |earlier| {
+                self.level(*net, earlier as usize)
+            });
             if code != before {
                 records.push(Record {
                     tick,

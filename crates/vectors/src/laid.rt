@@ -24,6 +24,21 @@ impl From<Kind> for u8 {
 }
 
 impl Kind {
+    // In the order of their numbers.
+    pub const ALL: [Kind; 11] = [
+        Kind::Buffer,
+        Kind::Not,
+        Kind::And,
+        Kind::Or,
+        Kind::Xor,
+        Kind::Nand,
+        Kind::Nor,
+        Kind::Xnor,
+        Kind::Tri,
+        Kind::PullUp,
+        Kind::PullDown,
+    ];
+
     // Pulls use no input.
     pub fn reads_a(self) -> bool {
         !matches!(self, Kind::PullUp | Kind::PullDown)

@@ -1,12 +1,12 @@
 // The tables of IEEE 1164 in full, as the standard prints them: rows are the left operand,
 // columns the right one, both in the order U X 0 1 Z W L H -. A board looks up every entry.
+ghost use Rattle.std.specs.Prelude.{◌≡◌, IfOk, codes};
+
 use crate::laid;
 use crate::laid::{Gate, Kind};
-use crate::values::Values;
+use crate::values::{Values, letter};
 use crate::vector::Vector;
 use std::alloc::{AllocError, Global};
-
-const LETTERS: &[u8; 9] = b"UX01ZWLH-";
 
 pub const AND: &[u8] = b"\
     UU0UUU0UU UX0XXX0XX 000000000 UX01XX01X UX0XXX0XX UX0XXX0XX 000000000 UX01XX01X UX0XXX0XX";
@@ -48,12 +48,6 @@ fn letter_in(table: &[u8], row: u16, column: u16) -> char {
     table.get(place).map_or('?', |letter| char::from(*letter))
 }
 
-fn letter(code: u16) -> char {
-    LETTERS
-        .get(code as usize)
-        .map_or('?', |letter| char::from(*letter))
-}
-
 // All 81 gates of one kind over nine ports, one port for each value; gate (i, j) drives net 9 + 9 i + j.
 fn all_pairs(heap: Global, kind: Kind) -> Result<Vec<u8>, AllocError> {
     let gates = (0..81u16)
@@ -87,11 +81,13 @@ pub fn gate_table(
     name: &'static str,
     kind: Kind,
     table: &[u8],
-) -> Result<Vector, AllocError> {
+) -> Result<Vector, AllocError>
+    ensures { IfOk result (λ v. v.name.now ≡ name.now) }
+{
     let board = all_pairs(heap, kind)?;
     let mut script = String::new(heap);
     let mut expected = String::new(heap);
-    for code in 0..9u16 {
+    for code in 0..9 {
         let value = letter(code);
         writeln!(script, "drive {code} {value}")?;
         expected.push_str("ok\n")?;
@@ -124,12 +120,14 @@ fn all_meetings(heap: Global) -> Result<Vec<u8>, AllocError> {
 }
 
 // Looks up every entry of the resolution: the row's value by the port, the column's by the gate.
-pub fn resolution_table(heap: Global) -> Result<Vector, AllocError> {
+pub fn resolution_table(heap: Global) -> Result<Vector, AllocError>
+    ensures { IfOk result (λ v. v.name.now ≡ codes "resolution") }
+{
     let board = all_meetings(heap)?;
     let mut script = String::new(heap);
     let mut expected = String::new(heap);
     for at in 0..81u16 {
-        let (row, column) = (letter(at / 9), letter(at % 9));
+        let (row, column) = (letter(u32::from(at / 9)), letter(u32::from(at % 9)));
         write!(script, "drive {at} {row}\nwake {at} {column}\n")?;
         expected.push_str("ok\nok\n")?;
     }

@@ -1,5 +1,6 @@
 // The list of vectors, and how to hold a bench to one.
-ghost use Rattle.std.specs.Prelude.{◌≡◌, ◌↔◌, IsTrue, IfOk, vec_len, string_bytes};
+ghost use Rattle.std.specs.Prelude.{◌≡◌, ◌↔◌, IsTrue, IfOk, map, vec_items, vec_len, string_bytes};
+ghost use Rattle.vectors.specs.Names.{names};
 
 use crate::laid::Kind;
 use crate::values::Values;
@@ -16,6 +17,26 @@ pub struct Vector {
 }
 
 impl Vector {
+    // A vector over a board.
+    pub(crate) fn of(
+        heap: Global,
+        name: &'static str,
+        values: Values,
+        board: Vec<u8>,
+        script: &str,
+        expected: &str,
+    ) -> Result<Vector, AllocError>
+        ensures { IfOk result (λ v. v.name.now ≡ name.now) }
+    {
+        Ok(Vector {
+            name,
+            values,
+            board,
+            script: String::from_str(heap, script)?,
+            expected: String::from_str(heap, expected)?,
+        })
+    }
+
     // Whether these are the answers that the board and the script must have.
     pub fn agrees(&self, answers: &[u8]) -> bool
         ensures { IsTrue result ↔ (answers.now ≡ string_bytes self.now.expected) }
@@ -26,7 +47,8 @@ impl Vector {
 
 // All vectors.
 pub fn all(heap: Global) -> Result<Vec<Vector>, AllocError>
-    ensures { IfOk result (λ all. vec_len all ≡ 16) }
+    ensures count { IfOk result (λ all. vec_len all ≡ 16) }
+    ensures names { IfOk result (λ all. map (λ v. v.name.now) (vec_items all) ≡ names) }
 {
     Ok(vec![in heap;
         circuits::inverter(heap)?,
