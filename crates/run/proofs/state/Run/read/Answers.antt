@@ -7,14 +7,6 @@ use Rattle.run.specs.Calls.{Reads}
 use Rattle.run.proofs.Callings.{call_refused, unfit, unready, is_ready, accepts, fit_on, nets_count, read_level}
 use Rattle.run.proofs.state.Run.read.Goals as goal
 
-pub returns-in_err-ready : goal.returns-in_err-ready
-returns-in_err-ready g c =
-    let x = c.args.self.now in
-    let u = unready x.fit x.ticks c.in_err-ready.field-0.0 (sym c.ready.ensures ∙ c.in_err-ready.was) in
-    let p = err_from_is_err_and c.from_residual.result c.from_residual.ensures.1 in
-    subst (Reads g.F.Family g.C.Calendar x c.args.net) (sym (p.1 ∙ ap Err (p.2 ∙ u.1)))
-    (call_refused g.F.Family g.C.Calendar x (UnfitCalendar x.ticks) refl (read c.args.net) (λ C s h. unfit g.F.Family g.C.Calendar C s x h (read c.args.net) u.0))
-
 pub returns-then-net-self : goal.returns-then-net-self
 returns-then-net-self g c =
     let x = c.args.self.now in
@@ -24,17 +16,6 @@ returns-then-net-self g c =
     let e₁ : not s.fit ≡ false = fit_on g.F.Family g.C.Calendar C s x h on in
     let e₂ : leb C.nets n ≡ true = le-leb C.nets n (omega (arith, nets_count g.F.Family g.C.Calendar C s x h, c.if-net-self.true)) in
     λ i. first_of ((e₁ i, 16) ∷ (e₂ i, 22) ∷ (eqb s.ticks 0, 23) ∷ []))
-
-pub returns-then-self-eq0 : goal.returns-then-self-eq0
-returns-then-self-eq0 g c =
-    let x = c.args.self.now in
-    let n = c.args.net in
-    let on = is_ready x.fit x.ticks tt (sym c.ready.ensures ∙ c.in_ok-ready.was) in
-    call_refused g.F.Family g.C.Calendar x (WrongTime x.ticks) refl (read n) (λ C s h.
-    let e₁ : not s.fit ≡ false = fit_on g.F.Family g.C.Calendar C s x h on in
-    let e₂ : leb C.nets n ≡ false = lt-leb C.nets n (omega (arith, nets_count g.F.Family g.C.Calendar C s x h, c.if-net-self.false)) in
-    let e₃ : eqb s.ticks 0 ≡ true = eq-eqb s.ticks 0 (sym h.fits.ticks_are ∙ c.if-self-eq0.true) in
-    λ i. first_of ((e₁ i, 16) ∷ (e₂ i, 22) ∷ (e₃ i, 23) ∷ []))
 
 pub returns : goal.returns
 returns g c C s h =
