@@ -8,41 +8,6 @@ use Rattle.run.specs.Calls.{Waked}
 use Rattle.run.proofs.Callings.{wake_refused, unfit, unready, is_ready, unvalued, is_valued, never, accepts, fit_on, gate_number, wake_fits}
 use Rattle.run.proofs.state.Run.wake.Goals as goal
 
-pub returns-in_err-ready : goal.returns-in_err-ready
-returns-in_err-ready g c =
-    let x = c.args.self.now in
-    let u = unready x.fit x.ticks c.in_err-ready.field-0.0 (sym c.ready.ensures ∙ c.in_err-ready.was) in
-    let p = err_from_is_err_and c.from_residual.result c.from_residual.ensures.1 in
-    subst (Waked g.F.Family g.C.Calendar x c.args.gate c.args.code x) (sym (p.1 ∙ ap Err (p.2 ∙ u.1)))
-    (wake_refused g.F.Family g.C.Calendar x (UnfitCalendar x.ticks) refl c.args.gate c.args.code
-    (λ C s h. unfit g.F.Family g.C.Calendar C s x h (wake c.args.gate c.args.code) u.0))
-
-pub returns-then-gate-self : goal.returns-then-gate-self
-returns-then-gate-self g c =
-    let x = c.args.self.now in
-    let L = g.F.Family.logic in
-    let k = c.args.gate in
-    let on = is_ready x.fit x.ticks tt (sym c.ready.ensures ∙ c.in_ok-ready.was) in
-    wake_refused g.F.Family g.C.Calendar x (NoSuchInput x.ticks) refl k c.args.code (λ C s h.
-    let e₁ : not s.fit ≡ false = fit_on g.F.Family g.C.Calendar C s x h on in
-    let e₂ : leb (gate_count C) k ≡ true = le-leb (gate_count C) k (omega (arith, gate_number g.F.Family g.C.Calendar C s x h, c.if-gate-self.true)) in
-    λ i. first_of ((e₁ i, 16) ∷ (e₂ i, 17) ∷ (not (is_some (L.of_code c.args.code)), 18) ∷ (ltb 0 s.ticks, 23) ∷ []))
-
-pub returns-in_err-v : goal.returns-in_err-v
-returns-in_err-v g c =
-    let x = c.args.self.now in
-    let L = g.F.Family.logic in
-    let k = c.args.gate in
-    let on = is_ready x.fit x.ticks tt (sym c.ready.ensures ∙ c.in_ok-ready.was) in
-    let u = unvalued (L.of_code c.args.code) x.ticks c.in_err-v.field-0.0 (sym c.value.ensures ∙ c.in_err-v.was) in
-    let p = err_from_is_err_and c.from_residual-in_err-v.result c.from_residual-in_err-v.ensures.1 in
-    subst (Waked g.F.Family g.C.Calendar x k c.args.code x) (sym (p.1 ∙ ap Err (p.2 ∙ u.1)))
-    (wake_refused g.F.Family g.C.Calendar x (NoSuchCode x.ticks) refl k c.args.code (λ C s h.
-    let e₁ : not s.fit ≡ false = fit_on g.F.Family g.C.Calendar C s x h on in
-    let e₂ : leb (gate_count C) k ≡ false = lt-leb (gate_count C) k (omega (arith, gate_number g.F.Family g.C.Calendar C s x h, c.if-gate-self.false)) in
-    let e₃ : not (is_some (L.of_code c.args.code)) ≡ true = ap (λ o. not (is_some o)) u.0 in
-    λ i. first_of ((e₁ i, 16) ∷ (e₂ i, 17) ∷ (e₃ i, 18) ∷ (ltb 0 s.ticks, 23) ∷ [])))
-
 pub returns-then-self-ne0 : goal.returns-then-self-ne0
 returns-then-self-ne0 g c =
     let x = c.args.self.now in

@@ -4,9 +4,6 @@ use Rattle.run.specs.Compared.{contradicts}
 use Rattle.run.proofs.Comparing.{lowest_is}
 use Rattle.run.proofs.state.compare.lowest.Goals as goal
 
-pub find-requires : goal.find-requires
-find-requires g c = record { can = tt; finite = tt; callable = serves_from_Range (λ x q k. search (rules, tests)) (λ x low high. omega (arith, c.requires)) }
-
 pub returns : goal.returns
 returns g c =
     let L = g.F.Family.logic in
