@@ -39,7 +39,7 @@ returns g c =
     let C = contents net in
     let e = gates-count net in
     let a = g.C.Calendar.meaning c.args.calendar.now in
-    let all = done_all L C c.args.levels.now c.args.planned.now c.args.moment.tick a c.args.gates.now.words (omega (arith, e, net.table)) l.gates.words l.planned (g.C.Calendar.meaning l.calendar) l.invariant c.in_default.ensures in
+    let all = done_all L C c.args.levels.now c.args.planned.now c.args.moment.tick a c.args.gates.now.words (omega (arith, e, net.table)) l.gates.words l.planned (g.C.Calendar.meaning l.calendar) l.invariant c.in_default.ensures.least in
     record {
       long = l.invariant.long;
       planned = λ idle h lt. (all idle).1 h (omega (arith, e));
