@@ -4,18 +4,16 @@
 
 #![tactic(auto)]
 
-use board_file::file::{board_bytes, board_of};
+use board_file::file::{board_bytes, board_of, board_or_empty};
 use board_file::lines::refusal_line;
 use calendar::entry::Entry;
 use heap::heap::Heap;
 use netlist::place::Netlist;
 use nine_values::nine::NineValues;
 use run::state::Run;
-use run::state::compare::contradiction;
-use script_stream::stream::work_script;
-use script_stream::verdict::Verdict;
+use script_stream::stream::{work_both, work_script};
 use std::fs::File;
-use std::io::{BufWriter, Write};
+use std::io::BufWriter;
 use std::{env, io};
 use wheel::wheel::Wheel;
 
@@ -29,7 +27,7 @@ fn main(rt: HostRuntime) -> io::Result<()> {
         }
         Ok(board) => match env::args(&rt)?.nth(1) {
             None => work(&rt, board),
-            Some(name) => work_both(&rt, board, bytes.as_slice(), name.as_str()),
+            Some(name) => work_two(&rt, board, bytes.as_slice(), name.as_str()),
         },
     }
 }
@@ -45,9 +43,9 @@ fn work(rt: &HostRuntime, board: Netlist) -> io::Result<()> {
 
 // Works the script on standard input and the one in a file, on two runs of one board, and says whether the second run contradicts
 // a definite level of the first.
-fn work_both(rt: &HostRuntime, board: Netlist, bytes: &[u8], name: &str) -> io::Result<()> {
+fn work_two(rt: &HostRuntime, board: Netlist, bytes: &[u8], name: &str) -> io::Result<()> {
     let heap = rt.alloc();
-    let again = board_of(bytes).unwrap_or(Netlist::new());
+    let again = board_or_empty(bytes);
     let mut entries = vec![in heap; Entry::BLANK; 65_536]?;
     let mut codes = vec![in heap; 0; 66_560]?;
     let mut input = rt.stdin();
@@ -55,8 +53,12 @@ fn work_both(rt: &HostRuntime, board: Netlist, bytes: &[u8], name: &str) -> io::
     let mut sink = BufWriter::new(heap, rt.stdout())?;
     let mut first: Run<NineValues, Heap> = Run::open(board, Heap::new(entries.as_mut_slice()));
     let mut second: Run<NineValues, Wheel> = Run::open(again, Wheel::new(codes.as_mut_slice()));
-    work_script(&mut first, &mut input, &mut sink, heap)?;
-    work_script(&mut second, &mut file, &mut sink, heap)?;
-    writeln!(sink, "{}", Verdict(contradiction(&first, &second)))?;
-    sink.flush()
+    work_both(
+        &mut first,
+        &mut input,
+        &mut second,
+        &mut file,
+        &mut sink,
+        heap,
+    )
 }

@@ -2,8 +2,7 @@
 
 #![tactic(auto)]
 
-use board_file::file::{board_bytes, board_of};
-use netlist::place::Netlist;
+use board_file::file::{board_bytes, board_or_empty};
 use pull_ranges::pulls::PullRanges;
 use run::state::Run;
 use script_stream::stream::work_script;
@@ -14,7 +13,7 @@ use wheel::wheel::Wheel;
 fn main(rt: HostRuntime) -> io::Result<()> {
     let heap = rt.alloc();
     let bytes = board_bytes(&rt, heap, "board.nlb")?;
-    let board = board_of(bytes.as_slice()).unwrap_or(Netlist::new());
+    let board = board_or_empty(bytes.as_slice());
     let mut codes = vec![in heap; 0; 66_560]?;
     let mut input = rt.stdin();
     let mut sink = BufWriter::new(heap, rt.stdout())?;

@@ -3,10 +3,9 @@
 
 #![tactic(auto)]
 
-use board_file::file::{board_bytes, board_of};
+use board_file::file::{board_bytes, board_or_empty};
 use calendar::entry::Entry;
 use heap::heap::Heap;
-use netlist::place::Netlist;
 use nine_values::nine::NineValues;
 use run::state::Run;
 use script::fault::ScriptFault;
@@ -53,7 +52,7 @@ fn main(rt: HostRuntime) -> io::Result<()> {
         heap,
     )?;
     serve(latch.as_slice(), &mut few, &mut unfit, &mut sink, heap)?;
-    let last = board_of(latch.as_slice()).unwrap_or(Netlist::new());
+    let last = board_or_empty(latch.as_slice());
     let mut run: Run<NineValues, Heap> = Run::open(last, Heap::new(entries.as_mut_slice()));
     small_buffers(&rt, &mut run)
 }
@@ -66,7 +65,7 @@ fn serve<R: Read>(
     sink: &mut BufWriter<Stdout>,
     heap: Global,
 ) -> io::Result<()> {
-    let board = board_of(file).unwrap_or(Netlist::new());
+    let board = board_or_empty(file);
     let mut run: Run<NineValues, Heap> = Run::open(board, Heap::new(entries));
     work_script(&mut run, script, sink, heap)
 }

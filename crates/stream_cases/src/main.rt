@@ -3,18 +3,15 @@
 
 #![tactic(auto)]
 
-use board_file::file::{board_bytes, board_of};
+use board_file::file::{board_bytes, board_or_empty};
 use calendar::entry::Entry;
 use heap::heap::Heap;
-use netlist::place::Netlist;
 use nine_values::nine::NineValues;
 use run::state::Run;
-use run::state::compare::contradiction;
-use script_stream::stream::work_script;
-use script_stream::verdict::Verdict;
+use script_stream::stream::{work_both, work_script};
 use std::alloc::Global;
 use std::io;
-use std::io::{BufWriter, Read, Stdout, Write};
+use std::io::{BufWriter, Read, Stdout};
 use wheel::wheel::Wheel;
 
 const EMPTY: &[u8] = b"";
@@ -45,7 +42,7 @@ fn alone<R: Read>(
 ) -> io::Result<()> {
     let mut entries = vec![in heap; Entry::BLANK; 4_096]?;
     let bytes = board_bytes(rt, heap, "board.nlb")?;
-    let board = board_of(bytes.as_slice()).unwrap_or(Netlist::new());
+    let board = board_or_empty(bytes.as_slice());
     let mut run: Run<NineValues, Heap> = Run::open(board, Heap::new(entries.as_mut_slice()));
     work_script(&mut run, script, sink, heap)
 }
@@ -60,14 +57,18 @@ fn pair(
     let mut entries = vec![in heap; Entry::BLANK; 4_096]?;
     let mut codes = vec![in heap; 0; 66_560]?;
     let bytes = board_bytes(rt, heap, "latch.nlb")?;
-    let latch = board_of(bytes.as_slice()).unwrap_or(Netlist::new());
-    let again = board_of(bytes.as_slice()).unwrap_or(Netlist::new());
+    let latch = board_or_empty(bytes.as_slice());
+    let again = board_or_empty(bytes.as_slice());
     let mut first: Run<NineValues, Heap> = Run::open(latch, Heap::new(entries.as_mut_slice()));
     let mut second: Run<NineValues, Wheel> = Run::open(again, Wheel::new(codes.as_mut_slice()));
     let mut script = RESET;
     let mut other_script = other;
-    work_script(&mut first, &mut script, sink, heap)?;
-    work_script(&mut second, &mut other_script, sink, heap)?;
-    writeln!(sink, "{}", Verdict(contradiction(&first, &second)))?;
-    sink.flush()
+    work_both(
+        &mut first,
+        &mut script,
+        &mut second,
+        &mut other_script,
+        sink,
+        heap,
+    )
 }
