@@ -8,6 +8,7 @@ use std::io;
 use vectors::values::Values;
 use vectors::vector;
 
+// Kept as it is: the vectors share nothing with the oracle, and no crate below has both.
 fn family_of(values: Values) -> Family {
     match values {
         Values::Nine => Family::Nine,

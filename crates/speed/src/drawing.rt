@@ -1,8 +1,8 @@
 ghost use Rattle.std.specs.Prelude.{◌≡◌, ◌+◌, ◌*◌, ◌<◌};
 
 use crate::sheet::Sheet;
-use netlist::gate::GateKind;
 use std::alloc::AllocError;
+use vectors::laid::Kind;
 
 const CLOCK: u16 = 0;
 
@@ -38,11 +38,11 @@ fn draw_latch(
     requires { first < 1000 }
 {
     let kept = first + 4;
-    sheet.add(GateKind::And, data, open, 1)?;
-    sheet.add(GateKind::And, kept, shut, 1)?;
-    sheet.add(GateKind::And, data, kept, 1)?;
-    sheet.add(GateKind::Or, first, first + 1, 1)?;
-    sheet.add(GateKind::Or, first + 3, first + 2, 1)?;
+    sheet.add(Kind::And, data, open, 1)?;
+    sheet.add(Kind::And, kept, shut, 1)?;
+    sheet.add(Kind::And, data, kept, 1)?;
+    sheet.add(Kind::Or, first, first + 1, 1)?;
+    sheet.add(Kind::Or, first + 3, first + 2, 1)?;
     Ok(())
 }
 
@@ -70,22 +70,22 @@ fn draw_registers(sheet: &mut Sheet) -> Result<(), AllocError> {
 
 // Each bit of the counter with its carry, then what the shift register takes in.
 fn draw_counter(sheet: &mut Sheet) -> Result<(), AllocError> {
-    sheet.add(GateKind::PullUp, 0, 0, 1)?;
+    sheet.add(Kind::PullUp, 0, 0, 1)?;
     for i in 0..30 {
-        sheet.add(GateKind::Xor, register(i), ONE + 2 * i, 2)?;
-        sheet.add(GateKind::And, register(i), ONE + 2 * i, 1)?;
+        sheet.add(Kind::Xor, register(i), ONE + 2 * i, 2)?;
+        sheet.add(Kind::And, register(i), ONE + 2 * i, 1)?;
     }
-    sheet.add(GateKind::Xnor, register(59), register(45), 2)?;
+    sheet.add(Kind::Xnor, register(59), register(45), 2)?;
     Ok(())
 }
 
 // Fifteen lines of a bus with two drivers and a pull-up each, of which the counter's first bit selects.
 fn draw_bus(sheet: &mut Sheet) -> Result<(), AllocError> {
-    sheet.add(GateKind::Not, register(0), 0, 1)?;
+    sheet.add(Kind::Not, register(0), 0, 1)?;
     for j in 0..15 {
-        sheet.add(GateKind::Tri, register(1 + j), register(0), 3)?;
-        sheet.join(GateKind::Tri, register(30 + j), NOT_SELECT, BUS + j, 3)?;
-        sheet.join(GateKind::PullUp, 0, 0, BUS + j, 1)?;
+        sheet.add(Kind::Tri, register(1 + j), register(0), 3)?;
+        sheet.join(Kind::Tri, register(30 + j), NOT_SELECT, BUS + j, 3)?;
+        sheet.join(Kind::PullUp, 0, 0, BUS + j, 1)?;
     }
     Ok(())
 }
@@ -93,23 +93,29 @@ fn draw_bus(sheet: &mut Sheet) -> Result<(), AllocError> {
 // Whether the bus differs from the last fifteen bits of the shift register, line by line.
 fn draw_differences(sheet: &mut Sheet) -> Result<(), AllocError> {
     for j in 0..15 {
-        sheet.add(GateKind::Xor, BUS + j, register(45 + j), 2)?;
+        sheet.add(Kind::Xor, BUS + j, register(45 + j), 2)?;
     }
+    Ok(())
+}
+
+// Whether any line differs.
+fn draw_any_difference(sheet: &mut Sheet) -> Result<(), AllocError> {
     let mut any = DIFFERENCES;
     for j in 0..15 {
-        any = sheet.add(GateKind::Or, any, DIFFERENCES + j, 1)?;
+        any = sheet.add(Kind::Or, any, DIFFERENCES + j, 1)?;
     }
     Ok(())
 }
 
 // Sixty registers under one clock: a counter of thirty bits and a shift register of thirty.
 pub fn draw_card(sheet: &mut Sheet) -> Result<(), AllocError> {
-    sheet.add(GateKind::Not, CLOCK, 0, 32)?;
-    sheet.add(GateKind::Not, CLOCK, 0, 1)?;
+    sheet.add(Kind::Not, CLOCK, 0, 32)?;
+    sheet.add(Kind::Not, CLOCK, 0, 1)?;
     draw_registers(sheet)?;
     draw_counter(sheet)?;
     draw_bus(sheet)?;
-    draw_differences(sheet)
+    draw_differences(sheet)?;
+    draw_any_difference(sheet)
 }
 
 // A ring of five inverters, from the net `first` on, each with the delay of its net.
@@ -117,9 +123,9 @@ fn draw_ring<D: Fn(u16) -> u16>(sheet: &mut Sheet, first: u16, delay: D) -> Resu
     requires room { first < 1020 }
     requires delays { D.IsAlwaysCallable delay }
 {
-    sheet.add(GateKind::Not, first + 4, 0, delay(first))?;
+    sheet.add(Kind::Not, first + 4, 0, delay(first))?;
     for net in first + 1..first + 5 {
-        sheet.add(GateKind::Not, net - 1, 0, delay(net))?;
+        sheet.add(Kind::Not, net - 1, 0, delay(net))?;
     }
     Ok(())
 }
@@ -137,12 +143,29 @@ fn delay(i: u16) -> u16 {
     7 * (i % 64) % 64 + 1
 }
 
-fn mixer(i: u16) -> GateKind {
+fn mixer(i: u16) -> Kind {
     match i % 4 {
-        0 => GateKind::And,
-        1 => GateKind::Or,
-        _ => GateKind::Xor,
+        0 => Kind::And,
+        1 => Kind::Or,
+        _ => Kind::Xor,
     }
+}
+
+// 250 gates that mix `nets` nets from `first` on; `turn` turns their kinds and delays.
+fn draw_mixers(sheet: &mut Sheet, first: u16, nets: u16, turn: u16) -> Result<(), AllocError>
+    requires some { 0 < nets }
+    requires room { first + nets < 1024 }
+    requires turned { turn < 2 }
+{
+    for i in 0..250 {
+        sheet.add(
+            mixer(i + turn),
+            (37 * i + 11) % nets + first,
+            (61 * i + 29) % nets + first,
+            delay(i + 3 * turn),
+        )?;
+    }
+    Ok(())
 }
 
 // A hundred rings, 250 gates that mix their nets, and 250 that mix those.
@@ -150,35 +173,25 @@ pub fn draw_mixed(sheet: &mut Sheet) -> Result<(), AllocError> {
     for r in 0..100 {
         draw_ring(sheet, 5 * r, delay)?;
     }
-    for i in 0..250 {
-        sheet.add(mixer(i), (37 * i + 11) % 500, (61 * i + 29) % 500, delay(i))?;
-    }
-    for i in 0..250 {
-        sheet.add(
-            mixer(i + 1),
-            (37 * i + 11) % 250 + 500,
-            (61 * i + 29) % 250 + 500,
-            delay(i + 3),
-        )?;
-    }
-    Ok(())
+    draw_mixers(sheet, 0, 500, 0)?;
+    draw_mixers(sheet, 500, 250, 1)
 }
 
 // A slow oscillator beside a long chain that never changes.
 pub fn draw_quiet(sheet: &mut Sheet) -> Result<(), AllocError> {
-    sheet.add(GateKind::Not, 0, 0, 64)?;
-    sheet.add(GateKind::PullDown, 0, 0, 1)?;
+    sheet.add(Kind::Not, 0, 0, 64)?;
+    sheet.add(Kind::PullDown, 0, 0, 1)?;
     for n in 2..1024 {
-        sheet.add(GateKind::Buffer, n - 1, 0, 1)?;
+        sheet.add(Kind::Buffer, n - 1, 0, 1)?;
     }
     Ok(())
 }
 
 // A chain of inverters along which one change runs, and then nothing.
 pub fn draw_still(sheet: &mut Sheet) -> Result<(), AllocError> {
-    sheet.add(GateKind::PullUp, 0, 0, 1)?;
+    sheet.add(Kind::PullUp, 0, 0, 1)?;
     for n in 1..1024 {
-        sheet.add(GateKind::Not, n - 1, 0, 1)?;
+        sheet.add(Kind::Not, n - 1, 0, 1)?;
     }
     Ok(())
 }

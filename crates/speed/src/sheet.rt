@@ -1,5 +1,6 @@
-use netlist::gate::{Gate, GateKind};
 use std::alloc::{AllocError, Global};
+use vectors::laid;
+use vectors::laid::{Gate, Kind};
 
 // A board as it is drawn: its gates so far, and the first net that is still free.
 #[derive(Drop)]
@@ -19,7 +20,7 @@ impl Sheet {
     // One driver more of the net `out`.
     pub fn join(
         &mut self,
-        kind: GateKind,
+        kind: Kind,
         a: u16,
         b: u16,
         out: u16,
@@ -36,7 +37,7 @@ impl Sheet {
     }
 
     // A gate with a net of its own, which it answers.
-    pub fn add(&mut self, kind: GateKind, a: u16, b: u16, delay: u16) -> Result<u16, AllocError> {
+    pub fn add(&mut self, kind: Kind, a: u16, b: u16, delay: u16) -> Result<u16, AllocError> {
         let out = self.free;
         self.free = out.saturating_add(1);
         self.join(kind, a, b, out, delay)?;
@@ -45,25 +46,8 @@ impl Sheet {
 
     // The netlist file, with the first nets watched, `watched` of them or all that there are.
     pub fn file(&self, heap: Global, watched: u16) -> Result<Vec<u8>, AllocError> {
-        let mut file = Vec::new(heap);
-        let gates = self.gates.len().min(1024) as u16;
-        let watches = watched.min(self.free);
-        file.extend_from_slice(b"NLB")?;
-        put(&mut file, &[1, self.free, 0, gates, watches])?;
-        for gate in &self.gates {
-            file.push(gate.kind.into())?;
-            put(&mut file, &[gate.a, gate.b, gate.out, gate.delay])?;
-        }
-        for net in 0..watches {
-            put(&mut file, &[net])?;
-        }
-        Ok(file)
+        let watches = (0..watched.min(self.free)).collect::<Vec<u16>>(heap)?;
+        let (gates, watches) = (self.gates.as_slice(), watches.as_slice());
+        laid::file(heap, self.free, 0, gates, watches)
     }
-}
-
-fn put(file: &mut Vec<u8>, words: &[u16]) -> Result<(), AllocError> {
-    for word in words {
-        file.extend_from_slice(&word.to_be_bytes())?;
-    }
-    Ok(())
 }
