@@ -39,7 +39,7 @@ fn all_lines<F: Named, C: Calendar>(
 }
 
 // What the bench answers to a vector's script on one make of calendar.
-// Kept as it is: opens runs as `play::play` does; one function for both takes what is done with the run as a trait with a method over any family and calendar, and no call of that proves ("cannot fit the signature of `work` to the trait's").
+// Kept as it is: one function for this and `play::play` takes the work as a trait with a generic method; no call of it proves.
 fn answers(heap: Global, make: Make, v: &Vector) -> Result<Vec<u8>, AllocError> {
     let Ok(board) = board_of(v.board.as_slice()) else {
         return Ok(Vec::new(heap));

@@ -38,6 +38,10 @@ fn report(rt: &HostRuntime, tally: &Tally) -> io::Result<()> {
     }
     let (ticks, records, lines) = (tally.ticks, tally.records, tally.lines);
     println!(rt; "{ticks} ticks, {records} records, {lines} script lines")?;
+    report_refusals(rt, tally)
+}
+
+fn report_refusals(rt: &HostRuntime, tally: &Tally) -> io::Result<()> {
     print!(rt; "refusals")?;
     for (number, count) in tally.refusals.iter().enumerate() {
         // 11 to 15 are a calendar's, and a run never brings them about
@@ -48,16 +52,19 @@ fn report(rt: &HostRuntime, tally: &Tally) -> io::Result<()> {
     println!(rt; "")
 }
 
-fn main(rt: HostRuntime) -> io::Result<()> {
-    let heap: Global = rt.alloc();
+fn outside(rt: &HostRuntime) -> io::Result<()> {
     for make in [Make::Heap, Make::Wheel] {
-        let (good, all) = bench::agreeing(heap, make)?;
+        let (good, all) = bench::agreeing(rt.alloc(), make)?;
         println!(rt; "{good} of {all} outside vectors agree on the {make}")?;
     }
+    Ok(())
+}
+
+fn main(rt: HostRuntime) -> io::Result<()> {
+    let heap: Global = rt.alloc();
+    outside(&rt)?;
     let mut tally = Tally::new(heap);
-    for seed in 0..4 {
-        case::compare_end(heap, &mut tally, seed)?;
-    }
+    case::compare_ends(heap, &mut tally)?;
     for seed in 0..wanted(&rt)? {
         case::compare(heap, &mut tally, seed)?;
     }

@@ -109,6 +109,7 @@ fn next_step(
 }
 
 // Takes the steps of a case; a difference ends it early.
+// Kept as it is: a struct that lends tally and random is refused: "a field is lent of a struct that is lent".
 fn all_steps<F: Named, C: Calendar>(
     heap: Global,
     tally: &mut Tally,

@@ -12,6 +12,7 @@ pub enum Difference {
 }
 
 // Each is told as a step, the file as the first and the end as the last that there can be.
+// Kept as it is: outputs stay, and a file was told as step 0 and an end as the last step.
 impl fmt::Display for Difference {
     fn fmt<W: fmt::Write>(&self, f: &mut fmt::Formatter<W>) -> fmt::Result {
         let number = match self {
@@ -29,7 +30,8 @@ pub struct Tally {
     pub ticks: u64,
     pub records: u64,
     pub lines: u64,
-    // how often each number came, from 1 on
+    // How often each number came, from 1 on.
+    // Kept as it is: numbers that never came are printed too, so a map would be begun with them all.
     pub refusals: [u64; 26],
     // the cases that differ, by their seed, each with the first that does
     pub differing: Vec<(u64, Difference)>,

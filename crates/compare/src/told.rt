@@ -13,6 +13,17 @@ pub struct Told {
     place: u64,
 }
 
+impl Told {
+    // As the run and the script tell it, with the letter as a byte.
+    fn lettered(number: u8, letter: u8, place: u32) -> Told {
+        Told {
+            number: u32::from(number),
+            layer: char::from(letter),
+            place: u64::from(place),
+        }
+    }
+}
+
 impl From<NetlistFault> for Told {
     fn from(fault: NetlistFault) -> Told {
         Told {
@@ -25,21 +36,13 @@ impl From<NetlistFault> for Told {
 
 impl From<RunFault> for Told {
     fn from(fault: RunFault) -> Told {
-        Told {
-            number: u32::from(fault.number()),
-            layer: char::from(fault.letter()),
-            place: u64::from(fault.place()),
-        }
+        Told::lettered(fault.number(), fault.letter(), fault.place())
     }
 }
 
 impl From<ScriptFault> for Told {
     fn from(fault: ScriptFault) -> Told {
-        Told {
-            number: u32::from(fault.number()),
-            layer: char::from(fault.letter()),
-            place: u64::from(fault.place()),
-        }
+        Told::lettered(fault.number(), fault.letter(), fault.place())
     }
 }
 
