@@ -9,8 +9,9 @@ mod steps;
 
 use crate::boards::{BUS, INVERTER, STILL};
 use crate::say::say_end;
-use crate::serve::{board, serve, serve_two};
+use crate::serve::{serve, serve_two};
 use crate::steps::{LAST, Level, PAIRS, PULSE, REFUSALS, Step};
+use board_file::file::board_or_empty;
 use calendar::entry::Entry;
 use heap::heap::Heap;
 use nine_values::nine::NineValues;
@@ -22,16 +23,16 @@ use wheel::wheel::Wheel;
 fn buses(rt: &HostRuntime) -> io::Result<()> {
     let mut entries = [Entry::BLANK; 70];
     let mut slots = [0; 260];
-    let mut run: Run<NineValues, Heap> = Run::open(board(BUS), Heap::new(&mut entries));
+    let mut run: Run<NineValues, Heap> = Run::open(board_or_empty(BUS), Heap::new(&mut entries));
     serve(rt, "heap 70", &mut run, PULSE)?;
     say_end(rt, run.finish())?;
-    let mut run: Run<NineValues, Wheel> = Run::open(board(BUS), Wheel::new(&mut slots));
+    let mut run: Run<NineValues, Wheel> = Run::open(board_or_empty(BUS), Wheel::new(&mut slots));
     serve(rt, "wheel 260", &mut run, PULSE)?;
     say_end(rt, run.finish())?;
-    let mut run: Run<PullRanges, Heap> = Run::open(board(BUS), Heap::new(&mut entries));
+    let mut run: Run<PullRanges, Heap> = Run::open(board_or_empty(BUS), Heap::new(&mut entries));
     serve(rt, "heap 70", &mut run, PULSE)?;
     say_end(rt, run.finish())?;
-    let mut run: Run<PullRanges, Wheel> = Run::open(board(BUS), Wheel::new(&mut slots));
+    let mut run: Run<PullRanges, Wheel> = Run::open(board_or_empty(BUS), Wheel::new(&mut slots));
     serve(rt, "wheel 260", &mut run, PULSE)?;
     say_end(rt, run.finish())
 }
@@ -41,16 +42,28 @@ fn refusals(rt: &HostRuntime) -> io::Result<()> {
     let mut slots = [0; 65];
     let mut too_few = [Entry::BLANK; 1];
     let mut too_short = [0; 64];
-    let mut run: Run<NineValues, Heap> = Run::open(board(INVERTER), Heap::new(&mut entries));
+    let mut run: Run<NineValues, Heap> = Run::open(
+        board_or_empty(INVERTER),
+        Heap::new(&mut entries),
+    );
     serve(rt, "heap 2", &mut run, REFUSALS)?;
     say_end(rt, run.finish())?;
-    let mut run: Run<PullRanges, Wheel> = Run::open(board(INVERTER), Wheel::new(&mut slots));
+    let mut run: Run<PullRanges, Wheel> = Run::open(
+        board_or_empty(INVERTER),
+        Wheel::new(&mut slots),
+    );
     serve(rt, "wheel 65", &mut run, REFUSALS)?;
     say_end(rt, run.finish())?;
-    let mut run: Run<NineValues, Heap> = Run::open(board(INVERTER), Heap::new(&mut too_few));
+    let mut run: Run<NineValues, Heap> = Run::open(
+        board_or_empty(INVERTER),
+        Heap::new(&mut too_few),
+    );
     serve(rt, "heap 1", &mut run, REFUSALS)?;
     say_end(rt, run.finish())?;
-    let mut run: Run<NineValues, Wheel> = Run::open(board(INVERTER), Wheel::new(&mut too_short));
+    let mut run: Run<NineValues, Wheel> = Run::open(
+        board_or_empty(INVERTER),
+        Wheel::new(&mut too_short),
+    );
     serve(rt, "wheel 64", &mut run, REFUSALS)?;
     say_end(rt, run.finish())
 }
@@ -60,7 +73,10 @@ fn stops(rt: &HostRuntime) -> io::Result<()> {
     let mut entries = [Entry::BLANK; 2];
     for length in 0..42 {
         let steps = [Step::Drive(0, Level::High), Step::Advance(4, length)];
-        let mut run: Run<NineValues, Heap> = Run::open(board(INVERTER), Heap::new(&mut entries));
+        let mut run: Run<NineValues, Heap> = Run::open(
+            board_or_empty(INVERTER),
+            Heap::new(&mut entries),
+        );
         serve(rt, "heap 2", &mut run, &steps)?;
         say_end(rt, run.finish())?;
     }
@@ -70,10 +86,10 @@ fn stops(rt: &HostRuntime) -> io::Result<()> {
 fn ends(rt: &HostRuntime) -> io::Result<()> {
     let mut entries = [Entry::BLANK; 1];
     let mut slots = [0; 65];
-    let mut run: Run<NineValues, Heap> = Run::open(board(STILL), Heap::new(&mut entries));
+    let mut run: Run<NineValues, Heap> = Run::open(board_or_empty(STILL), Heap::new(&mut entries));
     serve(rt, "heap 1", &mut run, LAST)?;
     say_end(rt, run.finish())?;
-    let mut run: Run<PullRanges, Wheel> = Run::open(board(STILL), Wheel::new(&mut slots));
+    let mut run: Run<PullRanges, Wheel> = Run::open(board_or_empty(STILL), Wheel::new(&mut slots));
     serve(rt, "wheel 65", &mut run, LAST)?;
     say_end(rt, run.finish())
 }
@@ -81,8 +97,14 @@ fn ends(rt: &HostRuntime) -> io::Result<()> {
 fn sides(rt: &HostRuntime) -> io::Result<()> {
     let mut entries = [Entry::BLANK; 2];
     let mut slots = [0; 65];
-    let mut first: Run<NineValues, Heap> = Run::open(board(INVERTER), Heap::new(&mut entries));
-    let mut second: Run<NineValues, Wheel> = Run::open(board(INVERTER), Wheel::new(&mut slots));
+    let mut first: Run<NineValues, Heap> = Run::open(
+        board_or_empty(INVERTER),
+        Heap::new(&mut entries),
+    );
+    let mut second: Run<NineValues, Wheel> = Run::open(
+        board_or_empty(INVERTER),
+        Wheel::new(&mut slots),
+    );
     serve_two(rt, &mut first, &mut second, PAIRS)
 }
 

@@ -1,10 +1,8 @@
 // Generic code that works runs: it serves every family and every calendar.
 use crate::say::{Answer, UNWRITTEN, say};
 use crate::steps::{Level, Step};
-use board_file::file::board_of;
 use calendar::calendar::Calendar;
 use logic::family::Family;
-use netlist::place::Netlist;
 use run::state::Run;
 use run::state::compare::contradiction;
 use std::io;
@@ -38,11 +36,6 @@ fn act<F: Family, C: Calendar>(
             .map(|(code, definite)| Answer::Level(code, definite)),
     };
     say(rt, answer, &trace)
-}
-
-// A board that the cases hold; a file that is refused leaves the place empty.
-pub fn board(file: &[u8]) -> Netlist {
-    board_of(file).unwrap_or(Netlist::new())
 }
 
 pub fn serve<F: Family, C: Calendar>(
