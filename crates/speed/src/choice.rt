@@ -101,7 +101,7 @@ impl Choice {
     }
 
     // Visits every board on every calendar over every family.
-    pub fn each<V: FnMut(Choice) -> anyhow::Result<()>>(mut visit: V) -> anyhow::Result<()>
+    pub(crate) fn each<V: FnMut(Choice) -> anyhow::Result<()>>(mut visit: V) -> anyhow::Result<()>
         requires { V.IsAlwaysCallable visit }
     {
         for board in Board::ALL {
