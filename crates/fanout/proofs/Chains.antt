@@ -1,19 +1,20 @@
 -- What stands in the chains. Assumes nothing.
-use Rattle.std.proofs.Common.{◌≡◌, ℕ, zero, suc, ◌+◌, ◌-◌, ◌<◌, ◌≤◌, Bool, true, false, cond, List, [], ◌∷◌, length, get_or, set, replicate, Some, None, Option, sym, refl, ap, ◌∙◌, ⊎_elim, arith, length-set, get_or-set_other, get_or-set_same}
+use Rattle.std.proofs.Common.{◌≡◌, ℕ, zero, suc, ◌+◌, ◌-◌, ◌<◌, ◌≤◌, Bool, true, false, cond, eqb, ltb, List, [], ◌∷◌, length, get_or, set, replicate, Some, None, Option, IfSome, sym, refl, ap, ◌∙◌, ⊎_elim, arith, length-set, get_or-set_other, get_or-set_same}
 use Rattle.std.specs.Bool.{then_some}
 use Rattle.std.specs.List.{range_with_len, filter, find}
 use Rattle.std.proofs.lemmas.List.{get_or-replicate, length-replicate}
-use Rattle.std.proofs.lemmas.Bool.{lt-ltb, cond-true, cond-false, cases_eq, eq-eqb, ne_eqb, eqb-true, false≢true}
+use Rattle.std.proofs.lemmas.Bool.{lt-ltb, ltb-true, ltb-false, cond-true, cond-false, cases_eq, eq-eqb, ne_eqb, eqb-true, false≢true}
 use Rattle.netlist.specs.Board.{Board}
 use Rattle.signal.specs.Circuit.{gate_count}
 use Rattle.fanout.specs.declared.pin.Pin.{Pin}
-use Rattle.fanout.specs.Seek.{same_net, net_at, meets, numbers_from, named}
+use Rattle.fanout.specs.Seek.{same_net, net_at, meets, numbers_from, named, entry_of}
 use Rattle.fanout.specs.Left.{chain_from}
 
 pub same-true : (o q : Option ℕ) → same_net o q ≡ true → o ≡ q
 same-true (Some m) (Some n) e = ap Some (eqb-true m n e)
 same-true (Some m) None e = absurd (false≢true e)
-same-true None q e = absurd (false≢true e)
+same-true None (Some n) e = absurd (false≢true e)
+same-true None None e = refl
 
 module _ (test : ℕ → Bool) where
   -- what a search finds, and those behind it
@@ -58,29 +59,42 @@ pub chain_first : (C : Board) (p : Pin) (at : Option ℕ) (g : ℕ) (gs : List �
 chain_first C p None g gs e = cc
 chain_first C p (Some h) g gs e = let same : h ≡ g = cc in ap Some same
 
-never_met : (C : Board) (p : Pin) (gs : List ℕ) → find (meets C p None) gs ≡ None
-never_met C p [] = refl
-never_met C p (g ∷ gs) = by (net_at C p g) (never_met C p gs)
+-- what an entry names is what was searched for
+pub named_entry : (C : Board) (p : Pin) (o : Option ℕ) (i : ℕ) → i ≤ gate_count C → gate_count C ≤ 1024 → (e : ℕ) → e ≡ entry_of (find (meets C p o) (numbers_from C i)) → named e ≡ find (meets C p o) (numbers_from C i)
+named_entry C p o i le fits e is = by (find (meets C p o) (numbers_from C i)) (λ g at. found_gate C p o i le (find (meets C p o) (numbers_from C i)) refl g at) is
   where
-    by : (o : Option ℕ) → find (meets C p None) gs ≡ None → cond (same_net o None) (Some g) (find (meets C p None) gs) ≡ None
-    by None e = e
-    by (Some m) e = e
+    by : (r : Option ℕ) → ((g : ℕ) → r ≡ Some g → g < gate_count C) → e ≡ entry_of r → named e ≡ r
+    by None low e = ap named e
+    by (Some g) low e = let lt = low g refl in ap named e ∙ ap (λ b. then_some b g) (lt-ltb g 1024 (omega arith))
+
+-- the place of a net in a table of firsts
+same_named : (n m : ℕ) → n ≤ 1024 → m ≤ 1024 → same_net (named n) (named m) ≡ eqb n m
+same_named n m a b = by (ltb n 1024) refl (ltb m 1024) refl
+  where
+    by : (c : Bool) → ltb n 1024 ≡ c → (d : Bool) → ltb m 1024 ≡ d → same_net (then_some c n) (then_some d m) ≡ eqb n m
+    by true p true q = refl
+    by true p false q = let l = ltb-true n 1024 p in let h = ltb-false m 1024 q in sym (ne_eqb n m (λ e. omega arith))
+    by false p true q = let l = ltb-true m 1024 q in let h = ltb-false n 1024 p in sym (ne_eqb n m (λ e. omega arith))
+    by false p false q = let l = ltb-false n 1024 p in let h = ltb-false m 1024 q in sym (eq-eqb n m (omega arith))
+
+-- the place of what a pin meets
+pub place_of : (o : Option ℕ) → IfSome o (λ n. n < 1024) → (o ≡ named (entry_of o)) × (entry_of o ≤ 1024)
+place_of None small = (refl, omega arith)
+place_of (Some n) small = (ap (λ b. then_some b n) (sym (lt-ltb n 1024 small)), omega arith)
 
 -- the chains of the gates from g on
 pub record Linked (C : Board) (p : Pin) (g : ℕ) (first next : List ℕ) : Type 0 where
-  pub long : length first ≡ 1024
+  pub long : length first ≡ 1025
   pub wide : length next ≡ 1024
-  pub heads : (n : ℕ) → n < 1024 → named (get_or first n 0) ≡ find (meets C p (Some n)) (numbers_from C g)
-  pub links : (h : ℕ) → g ≤ h → h < gate_count C → named (get_or next h 0) ≡ find (meets C p (net_at C p h)) (numbers_from C (h + 1))
-  pub blank : (h : ℕ) → h < g → get_or next h 0 ≡ 1024
+  pub heads : (n : ℕ) → n ≤ 1024 → get_or first n 0 ≡ entry_of (find (meets C p (named n)) (numbers_from C g))
+  pub links : (h : ℕ) → g ≤ h → h < gate_count C → get_or next h 0 ≡ entry_of (find (meets C p (net_at C p h)) (numbers_from C (h + 1)))
 
-pub linked_none : (C : Board) (p : Pin) (g : ℕ) → g ≡ gate_count C → g ≤ 1024 → Linked C p g (replicate 1024 1024) (replicate 1024 1024)
-linked_none C p g e le = record {
-  long = length-replicate {A = ℕ} 1024 1024;
+pub linked_none : (C : Board) (p : Pin) (g : ℕ) → g ≡ gate_count C → Linked C p g (replicate 1025 1024) (replicate 1024 1024)
+linked_none C p g e = record {
+  long = length-replicate {A = ℕ} 1025 1024;
   wide = length-replicate {A = ℕ} 1024 1024;
-  heads = λ n h. ap named (get_or-replicate 1024 n 1024 0 h) ∙ sym (ap (λ k. find (meets C p (Some n)) (range_with_len g k)) (none g (gate_count C) e));
+  heads = λ n h. get_or-replicate 1025 n 1024 0 (omega arith) ∙ sym (ap (λ k. entry_of (find (meets C p (named n)) (range_with_len g k))) (none g (gate_count C) e));
   links = λ h a b. absurd (omega arith);
-  blank = λ h lt. get_or-replicate 1024 h 1024 0 (omega arith);
 }
   where
     none : (g k : ℕ) → g ≡ k → k - g ≡ 0
@@ -93,33 +107,19 @@ module _ (C : Board) (p : Pin) (g : ℕ) (first next : List ℕ) (lt : g < gate_
       one : (c k : ℕ) → k < c → c - k ≡ suc (c - (k + 1))
       one c k h = omega arith
 
-  pub linked_more : (n : ℕ) → n < 1024 → net_at C p g ≡ Some n → Linked C p g (set first n g) (set next g (get_or first n 0))
+  pub linked_more : (n : ℕ) → n ≤ 1024 → net_at C p g ≡ named n → Linked C p g (set first n g) (set next g (get_or first n 0))
   linked_more n small e = record {
     long = length-set first n g ∙ l.long;
     wide = length-set next g (get_or first n 0) ∙ l.wide;
     heads = λ m h. ⊎_elim
-        (λ same. ap (λ z. named (get_or (set first n g) z 0)) same ∙ ap named (get_or-set_same first n g 0 (omega (arith, l.long))) ∙ ap (λ b. then_some b g) (lt-ltb g 1024 (omega arith))
-        ∙ sym (step (Some m) ∙ cond-true (meets C p (Some m) g) (Some g) (find (meets C p (Some m)) (numbers_from C (g + 1))) (ap (λ o. same_net o (Some m)) e ∙ eq-eqb n m (sym same))))
-        (λ ne. ap named (get_or-set_other first n m g 0 ne) ∙ l.heads m h
-        ∙ sym (step (Some m) ∙ cond-false (meets C p (Some m) g) (Some g) (find (meets C p (Some m)) (numbers_from C (g + 1))) (ap (λ o. same_net o (Some m)) e ∙ ne_eqb n m (λ q. ne (sym q)))))
+        (λ same. ap (λ z. get_or (set first n g) z 0) same ∙ get_or-set_same first n g 0 (omega (arith, l.long))
+        ∙ sym (ap entry_of (step (named m) ∙ cond-true (meets C p (named m) g) (Some g) (find (meets C p (named m)) (numbers_from C (g + 1))) (ap (λ o. same_net o (named m)) e ∙ same_named n m small h ∙ eq-eqb n m (sym same)))))
+        (λ ne. get_or-set_other first n m g 0 ne ∙ l.heads m h
+        ∙ sym (ap entry_of (step (named m) ∙ cond-false (meets C p (named m) g) (Some g) (find (meets C p (named m)) (numbers_from C (g + 1))) (ap (λ o. same_net o (named m)) e ∙ same_named n m small h ∙ ne_eqb n m (λ q. ne (sym q))))))
         (cases_eq m n);
     links = λ h a b. ⊎_elim
-        (λ same. ap (λ z. named (get_or (set next g (get_or first n 0)) z 0)) same ∙ ap named (get_or-set_same next g (get_or first n 0) 0 (omega (arith, l.wide))) ∙ l.heads n small
-        ∙ ap (λ o. find (meets C p o) (numbers_from C (g + 1))) (sym e) ∙ ap (λ z. find (meets C p (net_at C p z)) (numbers_from C (z + 1))) (sym same))
-        (λ ne. ap named (get_or-set_other next g h (get_or first n 0) 0 ne) ∙ l.links h (omega arith) b)
+        (λ same. ap (λ z. get_or (set next g (get_or first n 0)) z 0) same ∙ get_or-set_same next g (get_or first n 0) 0 (omega (arith, l.wide)) ∙ l.heads n small
+        ∙ ap (λ o. entry_of (find (meets C p o) (numbers_from C (g + 1)))) (sym e) ∙ ap (λ z. entry_of (find (meets C p (net_at C p z)) (numbers_from C (z + 1)))) (sym same))
+        (λ ne. get_or-set_other next g h (get_or first n 0) 0 ne ∙ l.links h (omega arith) b)
         (cases_eq h g);
-    blank = λ h below. get_or-set_other next g h (get_or first n 0) 0 (λ same. omega arith) ∙ l.blank h (omega arith);
-  }
-
-  pub linked_past : net_at C p g ≡ None → Linked C p g first next
-  linked_past e = record {
-    long = l.long;
-    wide = l.wide;
-    heads = λ m h. l.heads m h ∙ sym (step (Some m) ∙ ap (λ o. cond (same_net o (Some m)) (Some g) (find (meets C p (Some m)) (numbers_from C (g + 1)))) e);
-    links = λ h a b. ⊎_elim
-        (λ same. ap (λ z. named (get_or next z 0)) same ∙ ap named (l.blank g (omega arith)) ∙ sym (never_met C p (numbers_from C (g + 1)))
-        ∙ ap (λ o. find (meets C p o) (numbers_from C (g + 1))) (sym e) ∙ ap (λ z. find (meets C p (net_at C p z)) (numbers_from C (z + 1))) (sym same))
-        (λ ne. l.links h (omega arith) b)
-        (cases_eq h g);
-    blank = λ h below. l.blank h (omega arith);
   }

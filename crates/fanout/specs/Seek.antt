@@ -1,6 +1,7 @@
 -- The gates that meet a net. Assumes nothing.
-use Rattle.std.specs.Prelude.{◌≡◌, ℕ, ◌+◌, ◌-◌, ◌<◌, Bool, false, List, filter, find, Some, None, Option, ◌==◌, nat_lt, slice_index, slice_index_or}
+use Rattle.std.specs.Prelude.{◌≡◌, ℕ, ◌+◌, ◌-◌, ◌<◌, Bool, true, false, List, filter, find, Some, None, Option, ◌==◌, nat_lt, slice_index, slice_index_or}
 use Rattle.std.specs.Bool.{then_some}
+use Rattle.std.specs.Option.{unwrap_or}
 use Rattle.std.specs.List.{range_with_len}
 use Rattle.netlist.specs.declared.gate.Gate.{Gate}
 use Rattle.logic.specs.Logic.{Logic}
@@ -24,11 +25,12 @@ net_at C p g = pin_net p (gate C g)
 abbrev pub out_of : Board → ℕ → ℕ
 out_of C g = (gate C g).out
 
--- two nets, and the same one
+-- the same net, or no net at both
 abbrev pub same_net : Option ℕ → Option ℕ → Bool
 same_net (Some m) (Some n) = m == n
 same_net (Some m) None = false
-same_net None o = false
+same_net None (Some n) = false
+same_net None None = true
 
 -- whether gate g meets the net o at the pin
 abbrev pub meets : Board → Pin → Option ℕ → ℕ → Bool
@@ -50,13 +52,17 @@ gates_behind C p g = filter (meets C p (net_at C p g)) (numbers_from C (g + 1))
 abbrev pub named : ℕ → Option ℕ
 named entry = then_some (nat_lt entry 1024) entry
 
+-- the entry that names a gate, or none: just 1,024
+abbrev pub entry_of : Option ℕ → ℕ
+entry_of o = unwrap_or o 1024
+
 -- for each net the first gate that meets it at the pin
 abbrev pub Firsts : Board → Pin → List ℕ → Type 0
-Firsts C p first = (n : ℕ) → n < 1024 → named (slice_index first n) ≡ find (meets C p (Some n)) (numbers_from C 0)
+Firsts C p first = (n : ℕ) → n < 1024 → slice_index first n ≡ entry_of (find (meets C p (Some n)) (numbers_from C 0))
 
--- for each gate the next that meets the same net as it at the pin
+-- for each gate the next that meets the same net as it at the pin; those whose kinds do not use the pin stand in a chain too
 abbrev pub Nexts : Board → Pin → List ℕ → Type 0
-Nexts C p next = (g : ℕ) → g < gate_count C → named (slice_index next g) ≡ find (meets C p (net_at C p g)) (numbers_from C (g + 1))
+Nexts C p next = (g : ℕ) → g < gate_count C → slice_index next g ≡ entry_of (find (meets C p (net_at C p g)) (numbers_from C (g + 1)))
 
 -- every gate that does not stand in the set has planned what it gives on the levels
 abbrev pub Idle : {V : Type 0} → Logic V → Board → List V → List V → List ℕ → Type 0

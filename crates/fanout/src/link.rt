@@ -28,13 +28,12 @@ fn link(net: &Netlist, pin: Pin) -> Chain
     ensures heads { Firsts (contents net.now) pin result.first }
     ensures links { Nexts (contents net.now) pin result.next }
 {
-    let mut first = [1024u16; 1024];
+    let mut first = [1024u16; 1025];
     let mut next = [1024u16; 1024];
     for g in (0..net.head.gates).rev() {
-        if let Some(n) = net_at(net.gates[g as usize], pin) {
-            next[g as usize] = first[n as usize];
-            first[n as usize] = g;
-        }
+        let n = net_at(net.gates[g as usize], pin).unwrap_or(1024) as usize;
+        next[g as usize] = first[n];
+        first[n] = g;
     }
     Chain { first, next }
 }

@@ -5,11 +5,12 @@ ghost use Rattle.fanout.specs.declared.pin.Pin.TheVariants.{Output, First, Secon
 
 use netlist::place::Netlist;
 
-// For each net the first gate that meets it, and for each gate the next that meets the same net.
+// For each net the first gate that meets it, and for each gate the next that meets the same net; behind the nets
+// the first gate whose kind does not use the pin.
 // Kept as it is: 1,024 is none: options took twice the room, and 4.6 % more instructions on board `rings`.
 #[derive(Drop)]
 pub struct Chain {
-    pub first: [u16; 1024],
+    pub first: [u16; 1025],
     pub next: [u16; 1024],
 }
 
