@@ -78,7 +78,7 @@ fn narrow(n: u32) -> u16 {
 
 // A gate that drives a net; inputs that its kind does not use are 0.
 fn any_gate(random: &mut Random, style: Style, nets: u32, out: u16) -> Gate {
-    let kind = random.pick(style.kinds).unwrap_or(Kind::Buffer);
+    let kind = random.any_of(style.kinds).unwrap_or(Kind::Buffer);
     let a = if kind.reads_a() {
         random.below(nets)
     } else {

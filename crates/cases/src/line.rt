@@ -132,7 +132,7 @@ fn slip(random: &mut Random, line: &mut Vec<u8>) -> Result<(), AllocError> {
             let _ = line.remove(at);
         }
         1 => line.insert(at, b)?,
-        _ => line[at] = random.pick(b" 0189aZX-\r\x00\xff").unwrap_or(0),
+        _ => line[at] = random.pick(b" 0189aZX-\r\x00\xff"),
     }
     Ok(())
 }
@@ -151,7 +151,7 @@ pub fn line(
     values: Values,
 ) -> Result<Vec<u8>, AllocError> {
     if random.once_in(12) {
-        return Vec::from_slice(heap, random.pick(NONSENSE).unwrap_or(b""));
+        return Vec::from_slice(heap, random.any_of(NONSENSE).unwrap_or(b""));
     }
     let mut text = command(heap, random, board, values)?.into_bytes();
     if may_slip(text.as_slice()) && random.once_in(16) {

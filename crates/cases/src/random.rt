@@ -51,8 +51,13 @@ impl Random {
         self.below(n) == 0
     }
 
+    // One of the bytes; 0 where there is none.
+    pub fn pick(&mut self, bytes: &[u8]) -> u8 {
+        self.any_of(bytes).unwrap_or(0)
+    }
+
     // One of the items; none where there is none.
-    pub fn pick<T: Copy>(&mut self, items: &[T]) -> Option<T> {
+    pub(crate) fn any_of<T: Copy>(&mut self, items: &[T]) -> Option<T> {
         let n = u32::try_from(items.len()).unwrap_or(u32::MAX);
         items.get(self.below(n) as usize).copied()
     }

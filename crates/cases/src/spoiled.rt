@@ -13,7 +13,7 @@ fn change(random: &mut Random, bytes: &mut [u8]) {
     } else {
         random.below(n)
     };
-    let value = random.pick(EDGES).unwrap_or(0);
+    let value = random.pick(EDGES);
     if let Some(place) = bytes.get_mut(at as usize) {
         *place = value;
     }

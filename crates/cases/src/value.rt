@@ -44,6 +44,9 @@ pub fn odd_code(random: &mut Random) -> u32 {
 pub fn name(heap: Global, values: Values, code: u32) -> Result<String, AllocError> {
     match values {
         Values::Nine => letter(code).to_string(heap),
-        Values::Pulls => format!(in heap; "{code:04o}"),
+        Values::Pulls => {
+            let digits = code % 4096;
+            format!(in heap; "{digits:04o}")
+        }
     }
 }

@@ -5,7 +5,8 @@ use std::alloc::{AllocError, Global};
 
 #[derive(Clone, Copy, Debug, PartialEq, Eq)]
 pub struct Gate {
-    pub kind: Kind,
+    // its number in a file; the simulator takes any
+    pub kind: u8,
     pub a: u32,
     pub b: u32,
     pub out: u32,
@@ -48,7 +49,7 @@ impl Gate {
             return Err(Refusal::Delay);
         }
         Ok(Gate {
-            kind,
+            kind: u8::from(kind),
             a,
             b,
             out,

@@ -15,6 +15,31 @@ fn octal(byte: u8) -> Option<u8> {
     byte.checked_sub(b'0').filter(|digit| *digit < 8)
 }
 
+// The operation of a gate of the kind with this number; of a number that no kind has, an unset value.
+pub fn operate(family: Family, kind: u8, a: u32, b: u32) -> u32 {
+    match family {
+        Family::Nine => nine::operate(kind, a, b),
+        Family::Pulls => pull::operate(kind, a, b),
+    }
+}
+
+fn digit(n: u32) -> u8 {
+    b'0' + (n % 8) as u8
+}
+
+// Writes the name of the value with this code behind bytes.
+pub fn push_name(family: Family, code: u32, out: &mut Vec<u8>) -> Result<(), AllocError> {
+    match family {
+        Family::Nine => out.extend_from_slice(&[nine::letter_of(code)]),
+        Family::Pulls => out.extend_from_slice(&[
+            digit(code / 512),
+            digit(code / 64),
+            digit(code / 8),
+            digit(code),
+        ]),
+    }
+}
+
 impl Family {
     pub fn unset(self) -> u32 {
         match self {
@@ -32,8 +57,8 @@ impl Family {
 
     pub fn operate(self, kind: Kind, a: u32, b: u32) -> u32 {
         match self {
-            Family::Nine => nine::operate(kind, a, b),
-            Family::Pulls => pull::operate(kind, a, b),
+            Family::Nine => nine::gate_result(kind, a, b),
+            Family::Pulls => pull::gate_result(kind, a, b),
         }
     }
 
@@ -54,8 +79,11 @@ impl Family {
     // Writes the name of the value with this code behind `text`.
     pub fn push_name(self, code: u32, text: &mut String) -> Result<(), AllocError> {
         match self {
-            Family::Nine => text.push(nine::letter_of(code)),
-            Family::Pulls => write!(text, "{code:04o}"),
+            Family::Nine => text.push(nine::letter(code)),
+            Family::Pulls => {
+                let digits = code % 4096;
+                write!(text, "{digits:04o}")
+            }
         }
     }
 

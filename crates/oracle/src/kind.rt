@@ -4,7 +4,7 @@ use crate::refusal::Refusal;
 // In the order of their numbers in a file, which begin at 1.
 #[derive(Clone, Copy, Debug, PartialEq, Eq)]
 pub enum Kind {
-    Buffer,
+    Buffer = 1,
     Not,
     And,
     Or,
@@ -35,6 +35,12 @@ impl TryFrom<u8> for Kind {
             11 => Ok(Kind::PullDown),
             _ => Err(Refusal::Kind),
         }
+    }
+}
+
+impl From<Kind> for u8 {
+    fn from(kind: Kind) -> u8 {
+        kind as u8
     }
 }
 

@@ -74,8 +74,13 @@ pub fn code_of(letter: u8) -> Option<u32> {
 }
 
 // The letter of a code; `?` for a code without a value.
-pub fn letter_of(code: u32) -> char {
-    LETTERS.get(code as usize).map_or('?', |l| char::from(*l))
+pub fn letter_of(code: u32) -> u8 {
+    LETTERS.get(code as usize).copied().unwrap_or(b'?')
+}
+
+// The same as a character.
+pub(crate) fn letter(code: u32) -> char {
+    char::from(letter_of(code))
 }
 
 // What stands in the table's row `a` and column `b`.
@@ -84,8 +89,13 @@ pub fn entry(table: &[u8], a: u32, b: u32) -> u32 {
     letter.and_then(|l| code_of(*l)).unwrap_or(0)
 }
 
+// The operation of a gate of the kind with this number; of a number that no kind has, an unset value.
+pub fn operate(kind: u8, a: u32, b: u32) -> u32 {
+    Kind::try_from(kind).map_or(0, |kind| gate_result(kind, a, b))
+}
+
 // The operation of a gate of this kind.
-pub fn operate(kind: Kind, a: u32, b: u32) -> u32 {
+pub(crate) fn gate_result(kind: Kind, a: u32, b: u32) -> u32 {
     match kind {
         Kind::Buffer => entry(AND, a, a),
         Kind::Not => entry(NOT, 0, a),
@@ -103,5 +113,5 @@ pub fn operate(kind: Kind, a: u32, b: u32) -> u32 {
 
 // Nothing else refines 0, 1, Z, L, H or -; U, X and W each leave a choice.
 pub fn is_definite(code: u32) -> bool {
-    !matches!(letter_of(code), 'U' | 'X' | 'W')
+    !matches!(letter_of(code), b'U' | b'X' | b'W')
 }

@@ -3,10 +3,10 @@ use crate::kind::Kind;
 
 #[derive(Clone, Copy, Debug, PartialEq, Eq)]
 pub struct Pull {
-    up_low: u8,
-    up_high: u8,
-    down_low: u8,
-    down_high: u8,
+    pub up_low: u8,
+    pub up_high: u8,
+    pub down_low: u8,
+    pub down_high: u8,
 }
 
 // A code, or digits, that no value has.
@@ -63,6 +63,14 @@ impl From<Pull> for u32 {
 }
 
 impl Pull {
+    // Any strength both ways.
+    const OPEN: Pull = Pull {
+        up_low: 0,
+        up_high: 7,
+        down_low: 0,
+        down_high: 7,
+    };
+
     fn new(up_low: u8, up_high: u8, down_low: u8, down_high: u8) -> Pull {
         Pull {
             up_low,
@@ -132,13 +140,27 @@ impl Reading {
     }
 }
 
+// The value with this code, if one has it.
+pub fn of_code(code: u32) -> Option<Pull> {
+    Pull::try_from(code).ok()
+}
+
+pub fn code_of(p: Pull) -> u32 {
+    u32::from(p)
+}
+
 // The value with this code; with a code that none has, the one that leaves all open.
 fn value(code: u32) -> Pull {
-    Pull::try_from(code).unwrap_or(Pull::new(0, 7, 0, 7))
+    Pull::try_from(code).unwrap_or(Pull::OPEN)
+}
+
+// The operation of a gate of the kind with this number; of a number that no kind has, the value that leaves all open.
+pub fn operate(kind: u8, a: u32, b: u32) -> u32 {
+    Kind::try_from(kind).map_or(u32::from(Pull::OPEN), |kind| gate_result(kind, a, b))
 }
 
 // The operation of a gate of this kind.
-pub fn operate(kind: Kind, a: u32, b: u32) -> u32 {
+pub(crate) fn gate_result(kind: Kind, a: u32, b: u32) -> u32 {
     let (x, y) = (value(a).reading(), value(b).reading());
     let out = match kind {
         Kind::Buffer => Pull::from(x),

@@ -1,16 +1,18 @@
 // The simulator: every net at every tick, from the port values and the start levels.
 use crate::board::{Board, Gate};
 use crate::family::Family;
+use crate::kind::Kind;
 use crate::refusal::{Failure, Fault, Refusal};
 use std::alloc::{AllocError, Global};
 
 // No run has more ticks than this.
 const LAST: u32 = 16_777_216;
 
-// A gate and its start level.
+// A gate, its kind if its number has one, and its start level.
 #[derive(Clone, Copy)]
 struct Driver {
     gate: Gate,
+    kind: Option<Kind>,
     start: u32,
 }
 
@@ -60,7 +62,11 @@ impl Simulator {
         let drivers = board
             .gates
             .iter()
-            .map(|gate| Driver { gate: *gate, start })
+            .map(|gate| Driver {
+                gate: *gate,
+                kind: Kind::try_from(gate.kind).ok(),
+                start,
+            })
             .collect(heap)?;
         Ok(Simulator {
             heap,
@@ -89,27 +95,22 @@ impl Simulator {
         self.family
     }
 
-    // The level of a net at a tick; unset where the tick is not complete.
+    // The level of a net at a tick; unset where the tick is not complete, and 0 past the nets.
     fn level(&self, net: u32, tick: usize) -> u32 {
-        let row = self.levels.get(tick);
-        row.and_then(|row| row.get(net as usize).copied())
-            .unwrap_or(self.family.unset())
+        self.levels.get(tick).map_or(self.family.unset(), |row| {
+            row.get(net as usize).copied().unwrap_or(0)
+        })
     }
 
     // What a gate drives at a tick: its start level until its delay has passed, then its
     // operation on what its inputs were, the delay ago.
     fn output(&self, driver: &Driver, tick: usize) -> u32 {
-        let Gate {
-            kind,
-            a,
-            b,
-            delay,
-            ..
-        } = driver.gate;
+        let Gate { a, b, delay, .. } = driver.gate;
         let seen = tick.checked_sub(delay as usize);
         seen.map_or(driver.start, |then| {
             let (a, b) = (self.level(a, then), self.level(b, then));
-            self.family.operate(kind, a, b)
+            let kind = driver.kind;
+            kind.map_or(self.family.unset(), |kind| self.family.operate(kind, a, b))
         })
     }
 
@@ -125,7 +126,7 @@ impl Simulator {
         port.into_iter()
             .chain(gates)
             .reduce(|level, next| self.family.resolve(level, next))
-            .unwrap_or(self.family.unset())
+            .unwrap_or(0)
     }
 
     // Completes one tick.
@@ -191,8 +192,8 @@ impl Simulator {
     // Completes `count` ticks, fewer where the room for records runs short, and answers how many
     // and their records.
     pub fn advance(&mut self, count: u32, room: usize) -> Result<(u32, Vec<Record>), Failure> {
-        let before = self.ticks();
-        let place = u64::from(before);
+        let start = self.ticks();
+        let place = u64::from(start);
         Refusal::UnfitCalendar.unless(self.fit, place)?;
         Refusal::NoTicks.unless(count > 0, place)?;
         Refusal::PastTheLast.unless(place + u64::from(count) <= u64::from(LAST), place)?;
@@ -203,11 +204,13 @@ impl Simulator {
                 break;
             }
             let tick = self.ticks();
+            let before = records.len();
             self.step()?;
             self.report(tick, &mut records)?;
+            let new = records.len().saturating_sub(before);
+            self.records = self.records.saturating_add(new as u64);
         }
-        self.records = self.records.saturating_add(records.len() as u64);
-        Ok((self.ticks().saturating_sub(before), records))
+        Ok((self.ticks().saturating_sub(start), records))
     }
 
     // Whether some gate that looked ahead to this tick drives another level there than the tick before.

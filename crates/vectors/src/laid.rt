@@ -60,6 +60,16 @@ pub struct Gate {
     pub delay: u16,
 }
 
+// A gate by its numbers: kind, a, b, out and delay. It can be of a kind that no file may have.
+#[derive(Clone, Copy)]
+pub struct Row(pub u8, pub u16, pub u16, pub u16, pub u16);
+
+impl From<Gate> for Row {
+    fn from(gate: Gate) -> Row {
+        Row(u8::from(gate.kind), gate.a, gate.b, gate.out, gate.delay)
+    }
+}
+
 fn push_words(out: &mut Vec<u8>, words: &[u16]) -> Result<(), AllocError> {
     for word in words {
         out.extend_from_slice(&word.to_be_bytes())?;
@@ -72,11 +82,11 @@ fn count(n: usize) -> u16 {
 }
 
 // The file of a board: its head, its gates and its watch list.
-pub fn file(
+pub fn file<G: Copy + Into<Row>>(
     heap: Global,
     nets: u16,
     ports: u16,
-    gates: &[Gate],
+    gates: &[G],
     watches: &[u16],
 ) -> Result<Vec<u8>, AllocError> {
     let mut out = Vec::from_slice(heap, b"NLB")?;
@@ -85,8 +95,9 @@ pub fn file(
         &[1, nets, ports, count(gates.len()), count(watches.len())],
     )?;
     for gate in gates {
-        out.push(u8::from(gate.kind))?;
-        push_words(&mut out, &[gate.a, gate.b, gate.out, gate.delay])?;
+        let Row(kind, a, b, net, delay) = (*gate).into();
+        out.push(kind)?;
+        push_words(&mut out, &[a, b, net, delay])?;
     }
     push_words(&mut out, watches)?;
     Ok(out)

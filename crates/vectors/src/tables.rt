@@ -3,7 +3,7 @@
 ghost use Rattle.std.specs.Prelude.{◌≡◌, IfOk, codes};
 
 use crate::laid;
-use crate::laid::{Gate, Kind};
+use crate::laid::{Gate, Kind, Row};
 use crate::values::{Values, letter};
 use crate::vector::Vector;
 use std::alloc::{AllocError, Global};
@@ -49,16 +49,10 @@ fn letter_in(table: &[u8], row: u16, column: u16) -> char {
 }
 
 // All 81 gates of one kind over nine ports, one port for each value; gate (i, j) drives net 9 + 9 i + j.
-fn all_pairs(heap: Global, kind: Kind) -> Result<Vec<u8>, AllocError> {
+fn all_pairs(heap: Global, kind: u8) -> Result<Vec<u8>, AllocError> {
     let gates = (0..81u16)
-        .map(|at| Gate {
-            kind,
-            a: at / 9,
-            b: if kind.reads_b() { at % 9 } else { 0 },
-            out: 9 + at,
-            delay: 1,
-        })
-        .collect::<Vec<Gate>>(heap)?;
+        .map(|at| Row(kind, at / 9, if kind > 2 { at % 9 } else { 0 }, 9 + at, 1))
+        .collect::<Vec<Row>>(heap)?;
     let watches = (9..90).collect::<Vec<u16>>(heap)?;
     laid::file(heap, 90, 9, gates.as_slice(), watches.as_slice())
 }
@@ -75,16 +69,16 @@ fn all_entries(heap: Global, table: &[u8], tick: u16, first: u16) -> Result<Stri
     Ok(out)
 }
 
-// Looks up every entry of a gate's table.
-pub fn gate_table(
+// Looks up every entry of a gate's table. The kind may be a number that no kind has.
+pub fn gate_table<K: Into<u8>>(
     heap: Global,
     name: &'static str,
-    kind: Kind,
+    kind: K,
     table: &[u8],
 ) -> Result<Vector, AllocError>
     ensures { IfOk result (λ v. v.name.now ≡ name.now) }
 {
-    let board = all_pairs(heap, kind)?;
+    let board = all_pairs(heap, kind.into())?;
     let mut script = String::new(heap);
     let mut expected = String::new(heap);
     for code in 0..9 {
