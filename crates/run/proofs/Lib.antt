@@ -10,4 +10,5 @@ pub mod Idle
 pub mod Handlings
 pub mod Comparing
 pub mod Timing
+pub mod Sizes
 pub mod Leans

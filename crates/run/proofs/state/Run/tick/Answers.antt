@@ -14,7 +14,7 @@ pub returns-then-still : goal.returns-then-still
 returns-then-still g c =
     let x = c.args.self.now in
     let due = is_first x.ticks (g.C.Calendar.meaning x.calendar).waiting in
-    let both = and_parts x.calm (not due) (sym c.still-still.ensures ∙ c.if-still.true) in
+    let both = and_parts x.calm (not due) (sym c.still.ensures ∙ c.if-still.true) in
     record {
       ticked = λ C s t n on h.
           let r = idled g.met.F.Family.laws x.wiring.net s t n (g.C.Calendar.meaning x.calendar) x.fit x.calm x.ports x.drives x.planned x.levels x.ticks x.records h.fits on c.requires.early
@@ -45,7 +45,7 @@ returns g c =
     let net = x.wiring.net in
     let levels = c.work.new.levels in
     let worked = c.work.ensures in
-    let a₁ = g.C.Calendar.meaning c.turn.new.self in
+    let a₁ = g.C.Calendar.meaning c.turn-2.new.self in
     let wrote = roomy L net x.levels levels x.ticks c.args.at c.args.out.now c.report-end.result c.report-end.new.out c.requires.room c.report-end.ensures in
     record {
       ticked = λ C s t n on h.
@@ -54,7 +54,7 @@ returns g c =
           let r = ticked g.met.F.Family.laws net s t n (g.C.Calendar.meaning x.calendar) x.fit x.calm x.ports x.drives x.planned x.levels x.ticks x.records f on c.requires.early
           a₁ (with_waiting a₁ (left_over x.ticks a₁.waiting)) (g.C.Calendar.meaning c.work.new.calendar)
           c.work.new.drives c.work.new.planned levels c.args.out.now c.report-end.new.out c.args.at c.report-end.result
-          c.turn.ensures.after worked.drives refl (worked.long ∙ f.held.levels_long) (worked.levels s₀)
+          c.turn-2.ensures.after worked.drives refl (worked.long ∙ f.held.levels_long) (worked.levels s₀)
           wrote worked.wide (worked.planned s₀) (worked.calendar s₀) C h.board in
           (record { board = h.board; fits = r.0 }, r.1);
       more = refl;
