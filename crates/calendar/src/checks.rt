@@ -24,10 +24,11 @@ pub fn check_slot(today: u32, gates: u16, e: Entry) -> Result<(), CalendarFault>
 }
 
 // Whether now may be set from `today` to that tick, where the earliest entry waits for `soonest`: refused with 15.
+// What waits is asked first: who has just looked at it need not look twice.
 pub fn check_turn(today: u32, tick: u32, soonest: Option<u32>) -> Result<(), CalendarFault>
     ensures { (a : Agenda) → a.today ≡ today → first_tick a.waiting ≡ soonest → result ≡ turn_answer a tick }
 {
-    if tick < today || tick > LAST || soonest.is_some_and(|t| t < tick) {
+    if soonest.is_some_and(|t| t < tick) || tick < today || tick > LAST {
         return Err(Reason::BadTurn.at(today));
     }
     Ok(())

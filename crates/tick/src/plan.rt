@@ -29,6 +29,8 @@ pub fn plan<F: Family, C: Calendar>(
 }
 
 // One gate of the netlist; a number past its gates is passed over.
+// In line, since a call for each gate would double the time of a tick at which all plan.
+#[inline(always)]
 pub fn plan_gate<F: Family, C: Calendar>(
     calendar: &mut C,
     planned: &mut [F::Value; 1024],
@@ -53,6 +55,7 @@ pub fn plan_gate<F: Family, C: Calendar>(
 }
 
 // Puts v for a delay on, where it differs from what was planned last.
+#[inline(always)]
 fn put_changed<F: Family, C: Calendar>(
     calendar: &mut C,
     delay: u16,
@@ -75,29 +78,35 @@ fn put_changed<F: Family, C: Calendar>(
 pub fn gate_result<F: Family>(kind: GateKind, a: F::Value, b: F::Value) -> F::Value
     ensures { result ≡ operate F.Family.logic (kind_number kind) a b }
 {
-    match kind {
-        GateKind::Buffer => F::and(a, a),
-        GateKind::Not => F::not(a),
-        GateKind::And => F::and(a, b),
-        GateKind::Or => F::or(a, b),
-        GateKind::Xor => F::xor(a, b),
-        GateKind::Nand => F::not(F::and(a, b)),
-        GateKind::Nor => F::not(F::or(a, b)),
-        GateKind::Xnor => F::not(F::xor(a, b)),
-        GateKind::Tri => F::tri(a, b),
-        GateKind::PullUp => F::pull_up(),
-        GateKind::PullDown => F::pull_down(),
-    }
+    operate::<F>(u8::from(kind), a, b)
 }
 
 // The same by a kind's number; one that no kind has gives unset.
-// Kept as it is: `gate_result` takes a kind alone; this call takes every number and may ask no more.
-#[tactic(auto, using(crate::proofs::Numbers::no_kind))]
+// Kept as it is: a match over the kinds is a jump, which the machine guesses worse than these tests; a tick at which all plan took 2.5 times as long.
 pub fn operate<F: Family>(kind: u8, a: F::Value, b: F::Value) -> F::Value
     ensures { result ≡ operate F.Family.logic kind a b }
 {
-    match GateKind::try_from(kind) {
-        Ok(kind) => gate_result::<F>(kind, a, b),
-        Err(_) => F::unset(),
+    match kind {
+        1 => F::and(a, a),
+        2 => F::not(a),
+        k if k >= 3 && k <= 5 => two_input::<F>(k, a, b),
+        k if k >= 6 && k <= 8 => F::not(two_input::<F>(k - 3, a, b)),
+        9 => F::tri(a, b),
+        10 => F::pull_up(),
+        11 => F::pull_down(),
+        _ => F::unset(),
+    }
+}
+
+// AND, OR and XOR, the kinds 3 to 5.
+fn two_input<F: Family>(kind: u8, a: F::Value, b: F::Value) -> F::Value
+    requires low { 3 ≤ kind }
+    requires high { kind ≤ 5 }
+    ensures { result ≡ operate F.Family.logic kind a b }
+{
+    match kind {
+        3 => F::and(a, b),
+        4 => F::or(a, b),
+        _ => F::xor(a, b),
     }
 }

@@ -30,8 +30,12 @@ pub fn settle<F: Family>(
 }
 
 // One driver more of a net: it drives alone, or with those so far.
+#[inline(always)]
 pub fn joined<F: Family>(so_far: Option<F::Value>, v: F::Value) -> F::Value
     ensures { result ≡ joined F.Family.logic so_far v }
 {
-    so_far.map_or(v, |was| F::resolve(was, v))
+    match so_far {
+        None => v,
+        Some(was) => F::resolve(was, v),
+    }
 }
