@@ -1,3 +1,6 @@
+ghost use Rattle.std.specs.Prelude.{OnOk};
+ghost use Rattle.script_stream.specs.Verdicts.{Grows, SaysVerdict};
+
 use crate::held::Held;
 use crate::verdict::Verdict;
 use calendar::calendar::Calendar;
@@ -19,12 +22,15 @@ struct Desk {
 }
 
 // Works a whole script on a run, and writes the answers. Only the current line is kept, and of it no more than can be a command.
+#[tactic(auto, using(crate::proofs::Growing::grows_same))]
 pub fn work_script<F: Named, C: Calendar, R: Read, W: Write>(
     run: &mut Run<F, C>,
     input: &mut R,
     sink: &mut W,
     heap: Global,
-) -> io::Result<()> {
+) -> io::Result<()>
+    ensures { OnOk result (Grows (W.contents sink.old) (W.contents sink.new)) }
+{
     let mut desk = Desk {
         held: Held::new(),
         number: 0,
@@ -55,7 +61,9 @@ pub fn work_both<F: Named, C: Calendar, D: Calendar, R: Read, S: Read, W: Write>
     other: &mut S,
     sink: &mut W,
     heap: Global,
-) -> io::Result<()> {
+) -> io::Result<()>
+    ensures { OnOk result (SaysVerdict F.Family C.Calendar D.Calendar first.new second.new (W.contents sink.old) (W.contents sink.new)) }
+{
     work_script(first, script, sink, heap)?;
     work_script(second, other, sink, heap)?;
     writeln!(sink, "{}", Verdict(contradiction(first, second)))?;
@@ -64,12 +72,15 @@ pub fn work_both<F: Named, C: Calendar, D: Calendar, R: Read, S: Read, W: Write>
 
 impl Desk {
     // Works the lines that end in these bytes, and keeps the start of the next.
+    #[tactic(auto, using(crate::proofs::Growing::grows_same))]
     fn work_bytes<F: Named, C: Calendar, W: Write>(
         &mut self,
         run: &mut Run<F, C>,
         bytes: &[u8],
         sink: &mut W,
-    ) -> io::Result<()> {
+    ) -> io::Result<()>
+        ensures { OnOk result (Grows (W.contents sink.old) (W.contents sink.new)) }
+    {
         for b in bytes {
             if *b == b'\n' {
                 self.work_line(run, sink)?;
@@ -84,7 +95,9 @@ impl Desk {
         &mut self,
         run: &mut Run<F, C>,
         sink: &mut W,
-    ) -> io::Result<()> {
+    ) -> io::Result<()>
+        ensures { OnOk result (Grows (W.contents sink.old) (W.contents sink.new)) }
+    {
         self.number = self.number.saturating_add(1);
         let (end, _) = answer_line(
             run,
