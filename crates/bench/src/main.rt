@@ -32,6 +32,8 @@ fn main(rt: HostRuntime) -> io::Result<()> {
     }
 }
 
+// Not in the frame of `main`, which would have room for the runs of both functions at once.
+#[inline(never)]
 fn work(rt: &HostRuntime, board: Netlist) -> io::Result<()> {
     let heap = rt.alloc();
     let mut entries = vec![in heap; Entry::BLANK; 65_536]?;
@@ -43,6 +45,7 @@ fn work(rt: &HostRuntime, board: Netlist) -> io::Result<()> {
 
 // Works the script on standard input and the one in a file, on two runs of one board, and says whether the second run contradicts
 // a definite level of the first.
+#[inline(never)]
 fn work_two(rt: &HostRuntime, board: Netlist, bytes: &[u8], name: &str) -> io::Result<()> {
     let heap = rt.alloc();
     let again = board_or_empty(bytes);

@@ -5,6 +5,7 @@ use calendar::calendar::Calendar;
 use calendar::entry::Entry;
 use heap::heap::Heap;
 use logic::named::Named;
+use netlist::place::Netlist;
 use nine_values::nine::NineValues;
 use pull_ranges::pulls::PullRanges;
 use run::state::Run;
@@ -39,32 +40,43 @@ fn all_lines<F: Named, C: Calendar>(
 }
 
 // What the bench answers to a vector's script on one make of calendar.
-// Kept as it is: one function for this and `play::play` takes the work as a trait with a generic method; no call of it proves.
+// Kept as it is: one function for this and those of `play` takes the work as a trait with a generic method; no call of it proves.
 fn answers(heap: Global, make: Make, v: &Vector) -> Result<Vec<u8>, AllocError> {
     let Ok(board) = board_of(v.board.as_slice()) else {
         return Ok(Vec::new(heap));
     };
-    let script = v.script.as_str();
+    match make {
+        Make::Heap => answers_on_heap(heap, board, v),
+        Make::Wheel => answers_on_wheel(heap, board, v),
+    }
+}
+
+fn answers_on_heap(heap: Global, board: Netlist, v: &Vector) -> Result<Vec<u8>, AllocError> {
     let mut entries = vec![in heap; Entry::BLANK; 65_536]?;
+    let calendar = Heap::new(entries.as_mut_slice());
+    match v.values {
+        Values::Nine => {
+            let mut run: Run<NineValues, Heap> = Run::open(board, calendar);
+            all_lines(heap, &mut run, v.script.as_str())
+        }
+        Values::Pulls => {
+            let mut run: Run<PullRanges, Heap> = Run::open(board, calendar);
+            all_lines(heap, &mut run, v.script.as_str())
+        }
+    }
+}
+
+fn answers_on_wheel(heap: Global, board: Netlist, v: &Vector) -> Result<Vec<u8>, AllocError> {
     let mut slots = vec![in heap; 0; 65 * 1024]?;
-    let on_heap = Heap::new(entries.as_mut_slice());
-    let on_wheel = Wheel::new(slots.as_mut_slice());
-    match (make, v.values) {
-        (Make::Heap, Values::Nine) => {
-            let mut run: Run<NineValues, Heap> = Run::open(board, on_heap);
-            all_lines(heap, &mut run, script)
+    let calendar = Wheel::new(slots.as_mut_slice());
+    match v.values {
+        Values::Nine => {
+            let mut run: Run<NineValues, Wheel> = Run::open(board, calendar);
+            all_lines(heap, &mut run, v.script.as_str())
         }
-        (Make::Heap, Values::Pulls) => {
-            let mut run: Run<PullRanges, Heap> = Run::open(board, on_heap);
-            all_lines(heap, &mut run, script)
-        }
-        (Make::Wheel, Values::Nine) => {
-            let mut run: Run<NineValues, Wheel> = Run::open(board, on_wheel);
-            all_lines(heap, &mut run, script)
-        }
-        (Make::Wheel, Values::Pulls) => {
-            let mut run: Run<PullRanges, Wheel> = Run::open(board, on_wheel);
-            all_lines(heap, &mut run, script)
+        Values::Pulls => {
+            let mut run: Run<PullRanges, Wheel> = Run::open(board, calendar);
+            all_lines(heap, &mut run, v.script.as_str())
         }
     }
 }

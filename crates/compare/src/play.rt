@@ -145,8 +145,8 @@ fn same_end(
     Ok(())
 }
 
-// Plays a case on the calendar and over the family that its seed chooses, and answers the ticks and the records of the run.
-fn play(
+// Plays a case on a heap, over the family that its seed chooses, and answers the ticks and the records of the run.
+fn play_on_heap(
     heap: Global,
     tally: &mut Tally,
     random: &mut Random,
@@ -156,27 +156,41 @@ fn play(
     places: usize,
 ) -> Result<(u32, u64), AllocError> {
     let mut entries = vec![in heap; Entry::BLANK; places]?;
+    let calendar = Heap::new(entries.as_mut_slice());
+    match case.values() {
+        Values::Nine => {
+            let mut run: Run<NineValues, Heap> = Run::open(netlist, calendar);
+            all_steps(heap, tally, random, case, &mut run, sim)?;
+            Ok(run.finish())
+        }
+        Values::Pulls => {
+            let mut run: Run<PullRanges, Heap> = Run::open(netlist, calendar);
+            all_steps(heap, tally, random, case, &mut run, sim)?;
+            Ok(run.finish())
+        }
+    }
+}
+
+// The same on a wheel.
+fn play_on_wheel(
+    heap: Global,
+    tally: &mut Tally,
+    random: &mut Random,
+    case: &Case,
+    sim: &mut Simulator,
+    netlist: Netlist,
+    places: usize,
+) -> Result<(u32, u64), AllocError> {
     let mut slots = vec![in heap; 0; places]?;
-    let on_heap = Heap::new(entries.as_mut_slice());
-    let on_wheel = Wheel::new(slots.as_mut_slice());
-    match (case.make(), case.values()) {
-        (Make::Heap, Values::Nine) => {
-            let mut run: Run<NineValues, Heap> = Run::open(netlist, on_heap);
+    let calendar = Wheel::new(slots.as_mut_slice());
+    match case.values() {
+        Values::Nine => {
+            let mut run: Run<NineValues, Wheel> = Run::open(netlist, calendar);
             all_steps(heap, tally, random, case, &mut run, sim)?;
             Ok(run.finish())
         }
-        (Make::Heap, Values::Pulls) => {
-            let mut run: Run<PullRanges, Heap> = Run::open(netlist, on_heap);
-            all_steps(heap, tally, random, case, &mut run, sim)?;
-            Ok(run.finish())
-        }
-        (Make::Wheel, Values::Nine) => {
-            let mut run: Run<NineValues, Wheel> = Run::open(netlist, on_wheel);
-            all_steps(heap, tally, random, case, &mut run, sim)?;
-            Ok(run.finish())
-        }
-        (Make::Wheel, Values::Pulls) => {
-            let mut run: Run<PullRanges, Wheel> = Run::open(netlist, on_wheel);
+        Values::Pulls => {
+            let mut run: Run<PullRanges, Wheel> = Run::open(netlist, calendar);
             all_steps(heap, tally, random, case, &mut run, sim)?;
             Ok(run.finish())
         }
@@ -200,14 +214,10 @@ pub fn play_case(
     };
     let places = case.places(random);
     let mut sim = Simulator::new(heap, case.family(), own, places >= case.enough())?;
-    let (ticks, records) = play(
-        heap,
-        tally,
-        random,
-        case,
-        &mut sim,
-        netlist,
-        places as usize,
-    )?;
+    let room = places as usize;
+    let (ticks, records) = match case.make() {
+        Make::Heap => play_on_heap(heap, tally, random, case, &mut sim, netlist, room)?,
+        Make::Wheel => play_on_wheel(heap, tally, random, case, &mut sim, netlist, room)?,
+    };
     same_end(tally, case, &sim, ticks, records)
 }

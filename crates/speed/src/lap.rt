@@ -31,6 +31,16 @@ struct Lap {
     micros: u128,
 }
 
+impl Lap {
+    fn of(micros: u128, (ticks, records): (u32, u64)) -> Lap {
+        Lap {
+            ticks,
+            records,
+            micros,
+        }
+    }
+}
+
 // Advances until as many ticks are complete, and says on long runs how far it is.
 fn advance_to<F: Family, C: Calendar>(
     rt: &HostRuntime,
@@ -85,37 +95,56 @@ fn timed<F: Family, C: Calendar>(
     Ok(start.elapsed(rt)?.as_micros())
 }
 
+fn on_heap(
+    rt: &HostRuntime,
+    net: Netlist,
+    values: Values,
+    high: &[bool],
+    ticks: u32,
+) -> anyhow::Result<Lap> {
+    let mut entries = vec![in rt.alloc(); Entry::BLANK; ENTRIES]?;
+    let calendar = Heap::new(entries.as_mut_slice());
+    match values {
+        Values::Nine => {
+            let mut run: Run<NineValues, Heap> = Run::open(net, calendar);
+            Ok(Lap::of(timed(rt, &mut run, high, ticks)?, run.finish()))
+        }
+        Values::Pull => {
+            let mut run: Run<PullRanges, Heap> = Run::open(net, calendar);
+            Ok(Lap::of(timed(rt, &mut run, high, ticks)?, run.finish()))
+        }
+    }
+}
+
+fn on_wheel(
+    rt: &HostRuntime,
+    net: Netlist,
+    values: Values,
+    high: &[bool],
+    ticks: u32,
+) -> anyhow::Result<Lap> {
+    let mut slots = vec![in rt.alloc(); 0; SLOTS]?;
+    let calendar = Wheel::new(slots.as_mut_slice());
+    match values {
+        Values::Nine => {
+            let mut run: Run<NineValues, Wheel> = Run::open(net, calendar);
+            Ok(Lap::of(timed(rt, &mut run, high, ticks)?, run.finish()))
+        }
+        Values::Pull => {
+            let mut run: Run<PullRanges, Wheel> = Run::open(net, calendar);
+            Ok(Lap::of(timed(rt, &mut run, high, ticks)?, run.finish()))
+        }
+    }
+}
+
+// Only the calendar that is run gets its buffer.
 fn run_choice(rt: &HostRuntime, choice: Choice, file: &[u8], ticks: u32) -> anyhow::Result<Lap> {
     let net = board_of(file).map_err(|_| anyhow!("the board is refused"))?;
     let high = starts(rt.alloc(), &net)?;
-    let high = high.as_slice();
-    let mut entries = vec![in rt.alloc(); Entry::BLANK; ENTRIES]?;
-    let mut slots = vec![in rt.alloc(); 0; SLOTS]?;
-    let heap = Heap::new(entries.as_mut_slice());
-    let wheel = Wheel::new(slots.as_mut_slice());
-    let (micros, (ticks, records)) = match (choice.queue, choice.values) {
-        (Queue::Heap, Values::Nine) => {
-            let mut run: Run<NineValues, Heap> = Run::open(net, heap);
-            (timed(rt, &mut run, high, ticks)?, run.finish())
-        }
-        (Queue::Heap, Values::Pull) => {
-            let mut run: Run<PullRanges, Heap> = Run::open(net, heap);
-            (timed(rt, &mut run, high, ticks)?, run.finish())
-        }
-        (Queue::Wheel, Values::Nine) => {
-            let mut run: Run<NineValues, Wheel> = Run::open(net, wheel);
-            (timed(rt, &mut run, high, ticks)?, run.finish())
-        }
-        (Queue::Wheel, Values::Pull) => {
-            let mut run: Run<PullRanges, Wheel> = Run::open(net, wheel);
-            (timed(rt, &mut run, high, ticks)?, run.finish())
-        }
-    };
-    Ok(Lap {
-        ticks,
-        records,
-        micros,
-    })
+    match choice.queue {
+        Queue::Heap => on_heap(rt, net, choice.values, high.as_slice(), ticks),
+        Queue::Wheel => on_wheel(rt, net, choice.values, high.as_slice(), ticks),
+    }
 }
 
 // The ticks completed and the changes of all nets.

@@ -13,6 +13,7 @@ mod sheet;
 use crate::board::{Board, WATCHED};
 use crate::choice::{Choice, UnknownName};
 use crate::lap::{count, measure};
+use anyhow::anyhow;
 use std::env;
 use std::io::Write;
 
@@ -29,11 +30,15 @@ fn write_board(rt: &HostRuntime, board: Board) -> anyhow::Result<()> {
     Ok(())
 }
 
+// An empty first word is none at all, and `board` has words of its own for a name that it doesn't know.
 fn serve(rt: &HostRuntime, words: &[&str]) -> anyhow::Result<()> {
     match words {
-        [] => Choice::each(|choice| show(rt, choice)),
+        [] | ["", ..] => Choice::each(|choice| show(rt, choice)),
         ["all", ..] => Choice::each(|choice| measure(rt, choice)),
-        ["board", name, ..] => write_board(rt, Board::try_from(*name)?),
+        ["board", rest @ ..] => match Board::try_from(rest.first().copied().unwrap_or("")) {
+            Ok(board) => write_board(rt, board),
+            Err(_) => Err(anyhow!("no board of that name")),
+        },
         [board, queue, values, ..] => measure(rt, Choice::of_names(board, queue, values)?),
         _ => Err(UnknownName.into()),
     }
