@@ -52,7 +52,10 @@ impl fmt::Display for Answer {
             Answer::Nothing => f.write_str("nothing"),
             Answer::Number(n) => write!(f, "{n}"),
             Answer::Taken(Entry { tick, gate, code }) => write!(f, "{tick} {gate} {code}"),
-            Answer::Refused(fault) => write!(f, "no {fault}"),
+            Answer::Refused(fault) => {
+                let (number, letter) = (fault.number(), char::from(fault.letter()));
+                write!(f, "no {number} {letter} {}", fault.place)
+            }
         }
     }
 }

@@ -40,19 +40,27 @@ impl Plain {
         self.waiting.len()
     }
 
+    // Made here and not by the calendars' crate, whose faults it is laid beside.
+    fn fault(&self, reason: Reason) -> CalendarFault {
+        CalendarFault {
+            reason,
+            place: self.today,
+        }
+    }
+
     // Refuses a put of this tick and gate that may not be.
     fn check(&self, tick: u32, gate: u16) -> Result<(), CalendarFault> {
         if gate >= self.gates {
-            return Err(Reason::NoGate.at(self.today));
+            return Err(self.fault(Reason::NoGate));
         }
         if tick <= self.today || tick - self.today > 64 {
-            return Err(Reason::BadTick.at(self.today));
+            return Err(self.fault(Reason::BadTick));
         }
         if self.waiting.contains_key(&(tick, gate)) {
-            return Err(Reason::Twice.at(self.today));
+            return Err(self.fault(Reason::Twice));
         }
         if self.waiting.len() >= self.capacity as usize {
-            return Err(Reason::Full.at(self.today));
+            return Err(self.fault(Reason::Full));
         }
         Ok(())
     }
@@ -82,7 +90,7 @@ impl Plain {
     fn turn(&mut self, tick: u32) -> Result<(), CalendarFault> {
         let passes = self.next().is_some_and(|first| first < tick);
         if tick < self.today || tick > 16_777_216 || passes {
-            return Err(Reason::BadTurn.at(self.today));
+            return Err(self.fault(Reason::BadTurn));
         }
         self.today = tick;
         Ok(())

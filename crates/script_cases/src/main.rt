@@ -36,7 +36,6 @@ fn main(rt: HostRuntime) -> io::Result<()> {
     let mut unfit = UNFIT;
     let mut sink = BufWriter::new(heap, rt.stdout())?;
     let latch = board_bytes(&rt, heap, "board.nlb")?;
-    let ring = board_bytes(&rt, heap, "ring.nlb")?;
     serve(
         latch.as_slice(),
         entries.as_mut_slice(),
@@ -44,6 +43,7 @@ fn main(rt: HostRuntime) -> io::Result<()> {
         &mut sink,
         heap,
     )?;
+    let ring = board_bytes(&rt, heap, "ring.nlb")?;
     serve(
         ring.as_slice(),
         entries.as_mut_slice(),
