@@ -35,6 +35,7 @@ fn main(rt: HostRuntime) -> io::Result<()> {
     let mut full = RING;
     let mut unfit = UNFIT;
     let mut sink = BufWriter::new(heap, rt.stdout())?;
+    // each file is read when it is wanted, and not before
     let latch = board_bytes(&rt, heap, "board.nlb")?;
     serve(
         latch.as_slice(),
@@ -51,8 +52,10 @@ fn main(rt: HostRuntime) -> io::Result<()> {
         &mut sink,
         heap,
     )?;
-    serve(latch.as_slice(), &mut few, &mut unfit, &mut sink, heap)?;
-    let last = board_or_empty(latch.as_slice());
+    let again = board_bytes(&rt, heap, "board.nlb")?;
+    serve(again.as_slice(), &mut few, &mut unfit, &mut sink, heap)?;
+    let file = board_bytes(&rt, heap, "board.nlb")?;
+    let last = board_or_empty(file.as_slice());
     let mut run: Run<NineValues, Heap> = Run::open(last, Heap::new(entries.as_mut_slice()));
     small_buffers(&rt, &mut run)
 }

@@ -58,6 +58,7 @@ fn pair(
     let mut codes = vec![in heap; 0; 66_560]?;
     let bytes = board_bytes(rt, heap, "latch.nlb")?;
     let latch = board_or_empty(bytes.as_slice());
+    let bytes = board_bytes(rt, heap, "latch.nlb")?;
     let again = board_or_empty(bytes.as_slice());
     let mut first: Run<NineValues, Heap> = Run::open(latch, Heap::new(entries.as_mut_slice()));
     let mut second: Run<NineValues, Wheel> = Run::open(again, Wheel::new(codes.as_mut_slice()));
