@@ -44,7 +44,7 @@ numbers_from C i = range_with_len i (gate_count C - i)
 abbrev pub gates_at : Board → Pin → ℕ → List ℕ
 gates_at C p n = filter (meets C p (Some n)) (numbers_from C 0)
 
--- the gates behind g that meet the same net as g at the pin, or none where g meets none
+-- the gates behind g that meet the same net as g at the pin; where g meets no net, those that meet none either
 abbrev pub gates_behind : Board → Pin → ℕ → List ℕ
 gates_behind C p g = filter (meets C p (net_at C p g)) (numbers_from C (g + 1))
 
